@@ -2,3 +2,4 @@ pub mod Values
 pub mod Changes
 pub mod Trees
 pub mod Maps
+pub mod Rows

@@ -6,6 +6,10 @@
 
 mod bytes;
 mod commands;
+pub mod laws;
+mod order;
+#[cfg(test)]
+mod tests;
 mod values;
 
 pub use self::bytes::Bytes;

@@ -1,3 +1,5 @@
+//! Values: their kinds, copies and texts.
+
 ghost use Rattle.std.specs.Prelude.{◌≡◌, ◌↔◌, ◌++◌, ◌^◌, ◌≤◌, length, take, IsTrue, IfOk, OnOk, OnErr};
 ghost use Rattle.sync_command.specs.Values.{kind_of, same_value, value_text, value_of, GivesValue};
 
@@ -6,7 +8,7 @@ use std::alloc::Global;
 use sync_path::{NoMemory, PathFault, escape_to, unescape};
 use thiserror::Error;
 
-/// What kind a value is of.
+/// The kind of a value.
 #[derive(Clone, Copy, Debug, PartialEq, Eq)]
 pub enum Kind {
     Empty,
@@ -14,7 +16,7 @@ pub enum Kind {
     File,
 }
 
-/// What a node holds.
+/// What a node holds: nothing, a directory, or a file with its contents ("Values" in `docs/MODEL.md`).
 #[derive(Debug, Drop)]
 pub enum Value {
     Empty,
@@ -22,21 +24,25 @@ pub enum Value {
     File(Bytes),
 }
 
-/// Why a text is no value's.
+/// Why a text is no value's, in the order in which the reasons are looked for.
 #[derive(Debug, Drop, Error)]
 pub enum ValueFault {
+    /// The text is neither `-` nor `d`, and does not begin with `f:`.
     #[error("no value")]
     BadValue,
+    /// What follows `f:` is no escaped text.
     #[error("bad escape")]
     BadEscape,
+    /// The contents have more than 2^24 bytes.
     #[error("too long")]
     TooLong,
+    /// Memory ran out.
     #[error("out of memory")]
     Memory,
 }
 
 impl Value {
-    /// The value's kind.
+    /// The value's kind. Takes no memory.
     pub fn kind(&self) -> Kind
         ensures { result ≡ kind_of self.now }
     {
@@ -47,7 +53,8 @@ impl Value {
         }
     }
 
-    /// Whether the two values are equal.
+    /// Whether the two values are equal: of one kind and, where they are files, with the same bytes.
+    /// Takes no memory.
     pub fn same(&self, other: &Value) -> bool
         ensures equal { IsTrue result ↔ (self.now ≡ other.now) }
         ensures value { result ≡ same_value self.now other.now }
@@ -71,7 +78,8 @@ impl Value {
         }
     }
 
-    /// Appends the value's text.
+    /// Appends the value's text: `-`, `d`, or `f:` and the escaped contents ("Values" in
+    /// `docs/FORMATS.md`). After want of memory `out` begins with what it held.
     pub fn print_to(&self, out: &mut Vec<u8>) -> Result<(), NoMemory>
         ensures ok { OnOk result (out.new.items ≡ out.old.items ++ value_text self.now) }
         ensures err { OnErr result (take (length out.old.items) out.new.items ≡ out.old.items) }
@@ -87,7 +95,8 @@ impl Value {
         Ok(())
     }
 
-    /// Reads a value's text.
+    /// Reads a value's text. A refusal is the first of `BadValue`, `BadEscape` and `TooLong` that
+    /// applies; `Memory` may come in place of any answer.
     #[tactic(auto, unfolding(crate::specs::Values::value_of))]
     pub fn read(alloc: Global, text: &[u8]) -> Result<Value, ValueFault>
         ensures { GivesValue result (value_of text.now) }

@@ -1,16 +1,14 @@
 -- Texts of paths, and what readings and printings need.
-use Rattle.std.proofs.Common.{◌≡◌, ◌≢◌, ◌↔◌, ℕ, ◌+◌, ◌<◌, ◌≤◌, Bool, true, false, IsTrue, List, [], ◌∷◌, ◌++◌, length, take, drop, map, sym, refl, ap, ◌∙◌, subst, ⊎_elim, arith, cond, nat_eq, nat_lt, append_assoc, length-append, Some, None, Ok, Err, Option, Result, lit<}
-use Rattle.std.specs.List.{onto_first, join_with_byte, AllByRecursion, flat_map}
-use Rattle.std.proofs.lemmas.Bool.{cases_Bool, both_ways}
-use Rattle.std.proofs.lemmas.Bool.Decides.{nat_tests, Decides-eqb}
+use Rattle.std.proofs.Common.{◌≡◌, ◌↔◌, ℕ, ◌+◌, ◌<◌, ◌≤◌, Bool, true, false, IsTrue, List, [], ◌∷◌, ◌++◌, length, take, drop, sym, refl, ap, ◌∙◌, ⊎_elim, arith, nat_eq, append_assoc, length-append, Some, None, Option, lit<}
+use Rattle.std.specs.List.{onto_first, AllByRecursion}
+use Rattle.std.proofs.lemmas.Bool.{cases_Bool}
+use Rattle.std.proofs.lemmas.Bool.Decides.{Decides-eqb}
 use Rattle.std.proofs.lemmas.List.{take-append-le, take-append-drop, length-take}
-use Rattle.std.proofs.Math.Seq.{take-length, take-append_seam}
-use Rattle.sync_path.specs.declared.faults.PathFault.{PathFault}
-use Rattle.sync_path.specs.declared.faults.PathFault.TheVariants.{TooDeep, TooLong, BadName, BadEscape, Memory}
-use Rattle.sync_path.specs.Escapes.{escaped, escape_byte, AreBytes, IsEscaped}
-use Rattle.sync_path.specs.Names.{is_name, is_short, has_bar}
+use Rattle.std.proofs.Math.Seq.{take-append_seam}
+use Rattle.sync_path.specs.Escapes.{escaped, escape_byte}
+use Rattle.sync_path.specs.Names.{is_name, has_bar}
 use Rattle.sync_path.specs.Paths.{Node, parent, without_last, parts, names_in, path_text, IsPath, IsUnder}
-use Rattle.sync_path.specs.Reading.{first_fault, fault_of}
+use Rattle.sync_path.specs.Reading.{fault_of}
 use Rattle.sync_path.proofs.Cuts.{parts-some, marked, names_marked, path_from_none, no_bar}
 
 pub text_more : (n : List ℕ) (p : List (List ℕ)) → 0 < length p → path_text (n ∷ p) ≡ escaped n ++ 47 ∷ path_text p
@@ -23,7 +21,11 @@ onto_text x [] h = absurd (omega arith)
 onto_text x (n ∷ []) h = refl
 onto_text x (n ∷ m ∷ p) h = append_assoc (escape_byte x) (escaped n) (47 ∷ path_text (m ∷ p))
 
-escaped-cons : (x : ℕ) (xs : List ℕ) → escaped (x ∷ xs) ≡ escape_byte x ++ escaped xs
+pub escaped-nil : escaped [] ≡ []
+unfolding escaped
+escaped-nil = refl
+
+pub escaped-cons : (x : ℕ) (xs : List ℕ) → escaped (x ∷ xs) ≡ escape_byte x ++ escaped xs
 unfolding escaped
 escaped-cons x xs = refl
 

@@ -1,5 +1,5 @@
 -- Calls answer what the readings give.
-use Rattle.std.proofs.Common.{◌≡◌, ◌↔◌, ℕ, Bool, true, false, IsTrue, List, sym, refl, ap, ◌∙◌, subst, ⊎_elim, cond, Some, None, Ok, Err, Option, Result}
+use Rattle.std.proofs.Common.{◌≡◌, ◌↔◌, ℕ, Bool, true, false, IsTrue, List, sym, refl, ap, ◌∙◌, ⊎_elim, Some, None, Ok, Err, Result}
 use Rattle.std.specs.Str.{bytes_eq}
 use Rattle.std.proofs.lemmas.Slice.Eq.{bytes_eq-Decides}
 use Rattle.std.proofs.lemmas.Bool.{cases_Bool, both_ways}
@@ -9,20 +9,6 @@ use Rattle.sync_path.specs.declared.faults.PathFault.TheVariants.{TooDeep, TooLo
 use Rattle.sync_path.specs.Escapes.{escaped, unescaped_of}
 use Rattle.sync_path.specs.Paths.{parts}
 use Rattle.sync_path.specs.Reading.{fault_of, Gives, unless, path_of_bytes, path_of}
-
-pub gives_ok : (text v : List ℕ) (r : Bool) → v ≡ percent_decode text → IsTrue r ↔ (text ≡ escaped v) → r ≡ true → unescaped_of text ≡ Ok v
-unfolding unescaped_of
-gives_ok text v r d h t =
-    let same : bytes_eq text (escaped (percent_decode text)) ≡ true = (bytes_eq-Decides text (escaped (percent_decode text))).1 (h.0 t ∙ ap escaped d) in
-    rw (same, d) refl
-
-pub gives_bad : (text v : List ℕ) (r : Bool) → v ≡ percent_decode text → IsTrue r ↔ (text ≡ escaped v) → r ≡ false → unescaped_of text ≡ Err BadEscape
-unfolding unescaped_of
-gives_bad text v r d h f =
-    ⊎_elim
-    (λ (t : bytes_eq text (escaped (percent_decode text)) ≡ true). absurd (both_ways r f (h.1 ((bytes_eq-Decides text (escaped (percent_decode text))).0 t ∙ ap escaped (sym d)))))
-    (λ (g : bytes_eq text (escaped (percent_decode text)) ≡ false). rw g refl)
-    (cases_Bool (bytes_eq text (escaped (percent_decode text))))
 
 fails_at : (f : PathFault) (r : Result (List (List ℕ)) PathFault) → r ≡ Err f → Gives {X = List (List ℕ)} (λ p. p) (Err f) r
 fails_at BadEscape r e = e

@@ -35,6 +35,10 @@ parent (name ∷ (next ∷ rest)) = Some (name ∷ without_last next rest)
 abbrev pub IsUnder : Node → Node → Type 0
 IsUnder p q = (rest : Node) × (0 < length rest) × (p ≡ q ++ rest)
 
+-- p is under the parent of n
+abbrev pub IsUnderParentOf : Node → Node → Type 0
+IsUnderParentOf p n = (q : Node) × (parent n ≡ Some q) × IsUnder p q
+
 abbrev pub rest_under : Node → Node → Bool
 rest_under [] q = false
 rest_under (x ∷ p) [] = true

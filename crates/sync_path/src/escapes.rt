@@ -1,26 +1,83 @@
 //! The escapes of paths and of file contents.
 
-ghost use Rattle.std.specs.Prelude.{◌≡◌, ◌↔◌, ◌++◌, length, take, OnOk, OnErr, IsTrue};
-ghost use Rattle.sync_path.specs.Escapes.{escaped, unescaped_of};
+ghost use Rattle.std.specs.Prelude.{◌≡◌, ◌≢◌, ◌<◌, ◌++◌, ℕ, List, true, length, take, position, MatchOption, OnOk, OnErr};
+ghost use Rattle.std.specs.Fmt.{digit_glyph};
+ghost use Rattle.percent_encoding.specs.Iter.{encoded_text};
+ghost use Rattle.percent_encoding.specs.Percent.{percent_encode_byte};
+ghost use Rattle.sync_path.specs.Escapes.{needs_escape, escaped, unescaped_of};
 ghost use Rattle.sync_path.specs.Reading.{Gives};
 
+use crate::bytes::count_of;
 use crate::{NoMemory, PathFault};
-use percent_encoding::{AsciiSet, CONTROLS, ascii_set, percent_decode, percent_encode};
+use percent_encoding::{AsciiSet, CONTROLS, PercentEncode, ascii_set, percent_encode};
 use std::alloc::Global;
 
 /// The ASCII bytes that are escaped; every byte from 0x80 on is escaped too.
 const ESCAPED: AsciiSet = ascii_set!(CONTROLS.add(b' ').add(b'%'));
 
-/// Appends the escaped text of the bytes. After want of memory `out` begins with what it held.
+/// The escaped text of the bytes, in pieces. It takes no memory.
 #[tactic(auto, using(crate::proofs::Escape::encoded_is))]
+pub fn escaped_pieces(bytes: &[u8]) -> PercentEncode<'_>
+    ensures { encoded_text result ≡ escaped bytes.now }
+{
+    percent_encode(bytes, ESCAPED)
+}
+
+/// Appends the escaped text of the bytes. After want of memory `out` begins with what it held.
 pub fn escape_to(bytes: &[u8], out: &mut Vec<u8>) -> Result<(), NoMemory>
     ensures ok { OnOk result (out.new.items ≡ out.old.items ++ escaped bytes.now) }
     ensures err { OnErr result (take (length out.old.items) out.new.items ≡ out.old.items) }
 {
-    for piece in percent_encode(bytes, ESCAPED) {
+    for piece in escaped_pieces(bytes) {
         out.extend_from_slice(piece.as_bytes())?;
     }
     Ok(())
+}
+
+/// Whether the byte is escaped.
+fn is_special(byte: u8) -> bool
+    ensures { result ≡ needs_escape byte }
+{
+    byte <= 32 || byte == b'%' || byte >= 127
+}
+
+/// Where the first byte stands that is escaped.
+fn first_special(text: &[u8]) -> Option<usize>
+    ensures { result ≡ position needs_escape text.now }
+{
+    text.iter().position(|b| is_special(*b))
+}
+
+/// The value of an upper-case hexadecimal digit.
+fn digit(byte: u8) -> Option<u8>
+    ensures { MatchOption result ((h : ℕ) → h < 16 → digit_glyph true h ≢ byte) (λ h. (h < 16) × (byte ≡ digit_glyph true h)) }
+{
+    match byte {
+        b'0'..=b'9' => Some(byte - b'0'),
+        b'A'..=b'F' => Some(byte - b'A' + 10),
+        _ => None,
+    }
+}
+
+/// The byte with whose escape the text begins, and the text behind it.
+fn first_escape(text: &[u8]) -> Option<(u8, &[u8])>
+    ensures { MatchOption result ((b : ℕ) (more : List ℕ) → b < 256 → needs_escape b ≡ true → text.now ≢ percent_encode_byte b ++ more) (λ r. (r.0 < 256) × (needs_escape r.0 ≡ true) × (text.now ≡ percent_encode_byte r.0 ++ r.1.now)) }
+{
+    if text.len() < 3 || text[0] != b'%' {
+        return None;
+    }
+    let Some(high) = digit(text[1]) else {
+        return None;
+    };
+    let Some(low) = digit(text[2]) else {
+        return None;
+    };
+    let byte = 16 * high + low;
+    if is_special(byte) {
+        Some((byte, &text[3..]))
+    } else {
+        None
+    }
 }
 
 /// Gives the bytes whose escaped text the text is. `BadEscape` comes where there are none;
@@ -28,26 +85,19 @@ pub fn escape_to(bytes: &[u8], out: &mut Vec<u8>) -> Result<(), NoMemory>
 pub fn unescape(alloc: Global, text: &[u8]) -> Result<Vec<u8>, PathFault>
     ensures { Gives (λ bytes. bytes.items) result (unescaped_of text.now) }
 {
-    let mut bytes = Vec::new(alloc);
-    percent_decode(text).append_to(&mut bytes)?;
-    if is_text_of(text, &bytes) {
-        Ok(bytes)
-    } else {
-        Err(PathFault::BadEscape)
-    }
-}
-
-/// Whether the text is the escaped text of the bytes.
-#[tactic(auto, using(crate::proofs::Escape::encoded_is))]
-fn is_text_of(text: &[u8], bytes: &[u8]) -> bool
-    ensures { IsTrue result ↔ (text.now ≡ escaped bytes.now) }
-{
+    let room = text.len().saturating_sub(2 * count_of(text, b'%'));
+    let mut bytes = Vec::with_capacity(alloc, room)?;
     let mut rest = text;
-    for piece in percent_encode(bytes, ESCAPED) {
-        match rest.strip_prefix(piece.as_bytes()) {
-            Some(after) => rest = after,
-            None => return false,
-        }
+    'runs: loop {
+        let Some(at) = first_special(rest) else {
+            bytes.extend_from_slice(rest)?;
+            return Ok(bytes);
+        };
+        bytes.extend_from_slice(&rest[..at])?;
+        let Some((byte, after)) = first_escape(&rest[at..]) else {
+            return Err(PathFault::BadEscape);
+        };
+        bytes.push(byte)?;
+        rest = after;
     }
-    rest.is_empty()
 }

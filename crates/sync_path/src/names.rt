@@ -1,14 +1,13 @@
 //! Which bytes are a name.
 
-ghost use Rattle.std.specs.Prelude.{◌≡◌, ◌==◌, ◌||◌, Bool, map, if◌then◌else◌, IfOk};
-ghost use Rattle.sync_path.specs.Names.{is_name, is_dots, has_bar};
+ghost use Rattle.std.specs.Prelude.{◌≡◌, ◌==◌, map, if◌then◌else◌, IsTrue, None};
+ghost use Rattle.sync_path.specs.Names.{is_name, is_dots, has_bar, is_begun};
 ghost use Rattle.std.specs.Str.{is_utf8};
 ghost use Rattle.sync_path.specs.Paths.{parts};
 ghost use Rattle.sync_path.specs.Reading.{name_fault, first_fault, fault_of};
 
 use crate::PathFault;
 use crate::bytes::{count_of, cut_at};
-use std::alloc::{AllocError, Global};
 
 fn holds_bar(name: &[u8]) -> bool
     ensures { result ≡ has_bar name.now }
@@ -61,6 +60,33 @@ pub fn fault_of_name(name: &[u8]) -> Option<PathFault>
     }
 }
 
+/// Whether the bytes are neither nothing nor `.` nor `..`, and do not begin with `.sync-`.
+fn begins_well(name: &[u8]) -> bool
+    ensures { result ≡ is_begun name.now }
+{
+    name.len() > 0 && (name[0] != b'.' || !dots(name) && !name.starts_with(b".sync-"))
+}
+
+/// A quick test: where it says yes, there is a name in each place between the bars.
+fn all_fit(bytes: &[u8]) -> bool
+    ensures { IsTrue result → first_fault (parts 47 bytes.now) ≡ None }
+{
+    if count_of(bytes, 0) > 0 || !is_text(bytes) {
+        return false;
+    }
+    let mut rest = bytes;
+    'names: loop {
+        let (name, more) = cut_at(rest, b'/');
+        if name.len() > 255 || !begins_well(name) {
+            return false;
+        }
+        match more {
+            Some(after) => rest = after,
+            None => return true,
+        }
+    }
+}
+
 /// Why the bytes between the bars are no path: the first reason.
 pub fn first_fault_in(bytes: &[u8]) -> Option<PathFault>
     ensures { result ≡ first_fault (parts 47 bytes.now) }
@@ -85,15 +111,31 @@ pub fn fault_in(bytes: &[u8]) -> Option<PathFault>
     if count_of(bytes, b'/') >= 64 {
         return Some(PathFault::TooDeep);
     }
+    if all_fit(bytes) {
+        return None;
+    }
     first_fault_in(bytes)
 }
 
-/// The bytes with a NUL in the place of each bar.
-pub fn with_marks(alloc: Global, bytes: &[u8]) -> Result<Vec<u8>, AllocError>
-    ensures { IfOk result (λ v. v.items ≡ map (λ b. if b == 47 then 0 else b) bytes.now) }
+/// NUL for a bar, and each other byte as it is.
+fn mark_for(byte: u8) -> u8
+    ensures { result ≡ (if byte == 47 then 0 else byte) }
 {
-    bytes
-        .iter()
-        .map(|b| if *b == b'/' { 0 } else { *b })
-        .collect(alloc)
+    if byte == b'/' { 0 } else { byte }
+}
+
+/// Puts a NUL in the place of each bar.
+fn mark_in(bytes: &mut [u8])
+    ensures { bytes.new ≡ map (λ b. if b == 47 then 0 else b) bytes.old }
+{
+    for at in 0..bytes.len() {
+        bytes[at] = mark_for(bytes[at]);
+    }
+}
+
+/// Puts a NUL in the place of each bar.
+pub fn mark_names(bytes: &mut Vec<u8>)
+    ensures { bytes.new.items ≡ map (λ b. if b == 47 then 0 else b) bytes.old.items }
+{
+    mark_in(bytes.as_mut_slice());
 }

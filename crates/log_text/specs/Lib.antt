@@ -1,0 +1,4 @@
+pub mod Frame
+pub mod Logs
+pub mod Snapshots
+pub mod Reading

@@ -1,0 +1,62 @@
+-- What files and sinks in memory hold.
+use Rattle.std.specs.Prelude.{◌==◌, ℕ, List, Bool, drop}
+use Rattle.std.specs.List.{list_any}
+use Rattle.sync_port.specs.Told.{next_number}
+use Rattle.sync_port.specs.Ports.{Names, Shelf, Wrote}
+use Rattle.sync_port.specs.Entries.{held_in, bytes_at}
+use Rattle.sync_port.specs.declared.mem_files.MemFiles.{MemFiles}
+use Rattle.sync_port.specs.declared.mem_sink.MemSink.{MemSink}
+
+-- ---- files
+
+-- the bytes under each name
+abbrev pub names_held : MemFiles → Names
+names_held s = held_in s.entries.items
+
+-- the bytes still to come of the open file
+abbrev pub bytes_to_come : MemFiles → List ℕ
+bytes_to_come s = drop s.at (bytes_at s.entries.items s.opened)
+
+-- what they tell
+abbrev pub shelf_of : MemFiles → Shelf
+shelf_of s = record { held = names_held s; rest = bytes_to_come s }
+
+-- the numbers of the calls that fail
+abbrev pub calls_that_fail : MemFiles → List ℕ
+calls_that_fail s = s.fails.items
+
+-- the number of the last call
+abbrev pub calls_made : MemFiles → ℕ
+calls_made s = s.calls
+
+-- the number of the next call is listed
+abbrev pub next_call_fails : MemFiles → Bool
+next_call_fails s = list_any (λ n. n == next_number (calls_made s)) (calls_that_fail s)
+
+abbrev pub faults_counted : MemFiles → ℕ
+faults_counted s = s.faults
+
+-- ---- sinks
+
+-- the bytes so far
+abbrev pub bytes_written : MemSink → List ℕ
+bytes_written s = s.bytes.items
+
+-- how many of them stood there at the last flush
+abbrev pub bytes_flushed : MemSink → ℕ
+bytes_flushed s = s.flushed
+
+-- what it tells
+abbrev pub wrote_of : MemSink → Wrote
+wrote_of s = record { written = bytes_written s; flushed = bytes_flushed s }
+
+-- the number of bytes that it takes in all
+abbrev pub whole_room : MemSink → ℕ
+whole_room s = s.room
+
+-- whether each flush fails
+abbrev pub flushes_fail : MemSink → Bool
+flushes_fail s = s.flush_fails
+
+abbrev pub sink_faults : MemSink → ℕ
+sink_faults s = s.faults

@@ -1,0 +1,7 @@
+pub mod Told
+pub mod Faults
+pub mod Ports
+pub mod Whole
+pub mod Sending
+pub mod Entries
+pub mod InMemory

@@ -1,0 +1,24 @@
+//! Files that are read and sinks that are written to: what the program meets of the outside world.
+//!
+//! `docs/MODEL.md` says what a file, a sink, a fault and a stop are. An object of this crate may tell what
+//! it holds, as the ones in memory do, or tell nothing, as the ones of the system. A caller cannot ask which.
+#![tactic(auto)]
+
+mod entries;
+mod faults;
+mod host;
+mod mem_files;
+mod mem_sink;
+mod ports;
+mod sending;
+#[cfg(test)]
+mod tests;
+mod whole;
+
+pub use self::faults::{PortFault, SinkFailed, WholeFault};
+pub use self::host::{HostFiles, HostSink};
+pub use self::mem_files::MemFiles;
+pub use self::mem_sink::MemSink;
+pub use self::ports::{Files, Sink};
+pub use self::sending::{send, send_path};
+pub use self::whole::read_whole;

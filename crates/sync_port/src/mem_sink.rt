@@ -1,0 +1,94 @@
+//! A sink in memory, with room for so many bytes.
+
+ghost use Rattle.std.specs.Prelude.{◌≡◌, ◌≢◌, ◌↔◌, ◌-◌, ◌<◌, ◌≤◌, ◌+◌, [], Some, false, length, min, vec_len, vec_capacity, OnErr, IsErr, IfOk, IsTrue, is_ok, if◌then◌else◌};
+
+use crate::{Sink, SinkFailed};
+use std::alloc::Global;
+use sync_path::NoMemory;
+
+/// A sink in memory. It tells what was written.
+#[derive(Drop)]
+pub struct MemSink {
+    bytes: Vec<u8>,
+    room: usize,
+    flushed: usize,
+    flush_fails: bool,
+    faults: u64,
+    ghost within: { vec_len bytes ≤ room },
+    ghost has_room: { room ≤ vec_capacity bytes },
+}
+
+impl MemSink {
+    ghost use Rattle.sync_port.specs.InMemory.{bytes_written, bytes_flushed, whole_room, flushes_fail, sink_faults};
+
+    /// A sink that takes `room` bytes in all, and whose flushes all fail or all succeed. It takes the memory
+    /// for its bytes at once.
+    pub fn new(alloc: Global, room: usize, flush_fails: bool) -> Result<MemSink, NoMemory>
+        ensures written { IfOk result (λ s. bytes_written s ≡ []) }
+        ensures flushed { IfOk result (λ s. bytes_flushed s ≡ 0) }
+        ensures room { IfOk result (λ s. whole_room s ≡ room) }
+        ensures flush_fails { IfOk result (λ s. flushes_fail s ≡ flush_fails) }
+        ensures faults { IfOk result (λ s. sink_faults s ≡ 0) }
+    {
+        let bytes = Vec::with_capacity(alloc, room)?;
+        Ok(MemSink {
+            bytes,
+            room,
+            flushed: 0,
+            flush_fails,
+            faults: 0,
+        })
+    }
+
+    /// The bytes written so far.
+    pub fn bytes(&self) -> &[u8]
+        ensures { result.now ≡ bytes_written self.now }
+    {
+        &self.bytes
+    }
+}
+
+impl Sink for MemSink {
+    ghost use Rattle.sync_port.specs.Told.{next_number};
+    ghost use Rattle.sync_port.specs.Ports.{SinkCause, WritesSome, Writes, Flushes};
+    ghost use Rattle.sync_port.specs.InMemory.{bytes_written, whole_room, flushes_fail, sink_faults, wrote_of};
+
+    ghost told = { λ s. Some (wrote_of s) };
+
+    ghost faults = { sink_faults };
+
+    fn write(&mut self, piece: &[u8]) -> Result<usize, SinkFailed>
+        ensures some { WritesSome piece.now result }
+        ensures cause { SinkCause (sink_faults self.old) (sink_faults self.new) result }
+        ensures told { Writes piece.now result (wrote_of self.old) (wrote_of self.new) }
+        ensures failed { IsErr result ↔ ((0 < length piece.now) × (length (bytes_written self.old) ≡ whole_room self.old)) }
+        ensures count { IfOk result (λ count. count ≡ min (whole_room self.old - length (bytes_written self.old)) (length piece.now)) }
+        ensures fault { sink_faults self.new ≡ (if is_ok result then sink_faults self.old else next_number (sink_faults self.old)) }
+        ensures room { whole_room self.new ≡ whole_room self.old }
+        ensures flush_fails { flushes_fail self.new ≡ flushes_fail self.old }
+    {
+        let count = (self.room - self.bytes.len()).min(piece.len());
+        if count == 0 && !piece.is_empty() {
+            self.faults = self.faults.saturating_add(1);
+            return Err(SinkFailed);
+        }
+        self.bytes.extend_from_slice(&piece[..count]).unwrap();
+        Ok(count)
+    }
+
+    fn flush(&mut self) -> Result<(), SinkFailed>
+        ensures cause { SinkCause (sink_faults self.old) (sink_faults self.new) result }
+        ensures told { Flushes result (wrote_of self.old) (wrote_of self.new) }
+        ensures failed { IsErr result ↔ IsTrue (flushes_fail self.old) }
+        ensures fault { sink_faults self.new ≡ (if is_ok result then sink_faults self.old else next_number (sink_faults self.old)) }
+        ensures room { whole_room self.new ≡ whole_room self.old }
+        ensures flush_fails { flushes_fail self.new ≡ flushes_fail self.old }
+    {
+        if self.flush_fails {
+            self.faults = self.faults.saturating_add(1);
+            return Err(SinkFailed);
+        }
+        self.flushed = self.bytes.len();
+        Ok(())
+    }
+}

@@ -1,0 +1,19 @@
+//! The words of a command line: the job that they ask for, and the fixed texts of the program.
+//!
+//! `specs/Jobs.antt` says which words are which job, and `specs/Trees.antt` which of them name
+//! folders; `docs/FORMATS.md` tells both in words, and lists the texts.
+#![tactic(auto)]
+
+mod job;
+pub mod laws;
+mod operands;
+mod read;
+pub mod texts;
+mod trees;
+
+pub use self::job::{Job, Word, WordFault};
+pub use self::read::read_words;
+pub use self::trees::{first_tree_word, trees_wanted};
+
+#[cfg(test)]
+mod tests;

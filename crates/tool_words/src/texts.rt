@@ -1,0 +1,61 @@
+//! The fixed texts of the program: the help, and the parts of the lines on the error stream.
+//!
+//! A line on the error stream is put together from these parts, the words and numbers:
+//! `PROGRAM`, then a file's word and `COLON` or `LINE` with a number and `COLON` where the refusal
+//! names them, then the text of the refusal and `LINE_END`.
+
+/// What the job of the help prints.
+pub const HELP: &str = "usage: treesync COMMAND WORDS\n  replay SNAP LOG\n  canon LOG\n";
+
+/// The front of each line.
+pub const PROGRAM: &str = "treesync: ";
+/// Between a word, or a line's number, and what follows it.
+pub const COLON: &str = ": ";
+/// Between a file's word and the number of a line in it.
+pub const LINE: &str = ": line ";
+/// The end of each line.
+pub const LINE_END: &str = "\n";
+
+/// The words are no job (status 2).
+pub const WORDS_REFUSED: &str = "words refused";
+/// A file could not be read (status 3).
+pub const READ_FAILED: &str = "read failed";
+/// The output could not be written (status 4).
+pub const WRITE_FAILED: &str = "write failed";
+/// No tree takes the log up to a command (status 6).
+pub const NO_TREE: &str = "no tree takes this log";
+/// A file passes a limit (status 12).
+pub const TOO_LARGE: &str = "too large";
+/// Memory ran out (status 16).
+pub const OUT_OF_MEMORY: &str = "out of memory";
+/// The snapshot's tree does not take a command of the log (status 17).
+pub const NOT_TAKEN: &str = "not taken";
+
+/// The first line is not the form's (status 5, and so all below).
+pub const HEADER: &str = "header";
+/// A line has another number of fields than its form.
+pub const FIELDS: &str = "fields";
+/// A form has more lines than its limit.
+pub const TOO_MANY: &str = "too-many";
+/// A preference list has more wide rules than its limit.
+pub const TOO_WIDE: &str = "too-wide";
+/// A field is not the number of a log.
+pub const NUMBER: &str = "number";
+/// A field is not the text of a path.
+pub const PATH: &str = "path";
+/// A field is not the text of a value.
+pub const VALUE: &str = "value";
+/// A command's old and new value are equal.
+pub const SAME: &str = "same";
+/// A row of a snapshot has no value.
+pub const EMPTY: &str = "empty";
+/// A row of a snapshot is not above the one before it.
+pub const ORDER: &str = "order";
+/// No earlier row of a snapshot makes the parent a directory.
+pub const PARENT: &str = "parent";
+/// The text ends before its end line.
+pub const END: &str = "end";
+/// The end line has another number than that of the lines.
+pub const COUNT: &str = "count";
+/// Bytes follow the end line.
+pub const AFTER: &str = "after";
