@@ -6,11 +6,11 @@ use Rattle.std.specs.Ordering.{eq_by_cmp}
 use Rattle.std.specs.FinMap as map
 use Rattle.std.specs.FinMap.{get-empty, get-insert, get-remove}
 use Rattle.sync_path.specs.Order.{path_cmp_total}
-use Rattle.sync_path.specs.Paths.{Node, path_cmp, parent, same_path}
+use Rattle.sync_path.specs.Paths.{Node, path_cmp, same_path}
 use Rattle.sync_command.specs.Changes.{Change}
 use Rattle.sync_command.specs.Maps.{IsTreeMap, Store, at, store, stored, value_or_empty}
 use Rattle.sync_command.specs.Trees.{IsApplicable, IsTree, Takes, put, result_of}
-use Rattle.sync_command.specs.Values.{is_dir, is_empty}
+use Rattle.sync_command.specs.Values.{is_empty}
 use Rattle.sync_command.specs.declared.values.Value.{Value}
 use Rattle.sync_command.specs.declared.values.Value.TheVariants.{Dir, Empty, File}
 

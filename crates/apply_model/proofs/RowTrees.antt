@@ -1,5 +1,5 @@
 -- Rows that are a tree in path order, and the maps that they make.
-use Rattle.std.proofs.Common.{◌≡◌, ◌≢◌, ◌&&◌, ◌||◌, Bool, true, false, cond, IsTrue, List, [], ◌∷◌, ◌++◌, Option, Some, None, refl, sym, ap, ◌∙◌, subst, arith, append_assoc}
+use Rattle.std.proofs.Common.{◌≡◌, ◌&&◌, ◌||◌, Bool, true, false, cond, List, [], ◌∷◌, ◌++◌, Option, Some, None, refl, sym, ap, ◌∙◌, subst, append_assoc}
 use Rattle.std.specs.Prelude.{map}
 use Rattle.std.specs.declared.cmp.Ordering.{Ordering}
 use Rattle.std.specs.declared.cmp.Ordering.TheVariants.{Less, Equal, Greater}
@@ -14,7 +14,7 @@ use Rattle.sync_path.specs.Order.{path_cmp_exact, path_cmp_total}
 use Rattle.sync_path.specs.Paths.{Node, comes_before, parent, path_cmp, same_path}
 use Rattle.sync_path.proofs.OrderLaws.{child_after, equal_is, same_path_is}
 use Rattle.sync_command.specs.Maps.{IsTreeMap, Store, at, value_or_empty}
-use Rattle.sync_command.specs.Rows.{AreNextRows, IsNextRow, IsRowTree, gives_dir, gives_parent, is_behind}
+use Rattle.sync_command.specs.Rows.{AreNextRows, IsRowTree, gives_dir, gives_parent, is_behind}
 use Rattle.sync_command.specs.Values.{is_dir, is_empty}
 use Rattle.sync_command.specs.declared.commands.Row.{Row}
 use Rattle.sync_command.specs.declared.values.Value.{Value}
@@ -23,7 +23,6 @@ use Rattle.apply_model.specs.Entries.{entry_of, row_of, rows_of, store_of}
 use Rattle.apply_model.proofs.Kept.{empty_is}
 use Rattle.apply_model.proofs.Neighbours.{before_is, less_is}
 use Rattle.apply_model.proofs.Rising.{AllBehind, Entries, Rising, entries-from_rising, not_behind, rising_from_ordered, rising_from_sorted}
-use Rattle.apply_model.proofs.Steps.{same_itself}
 
 -- ---- paths that compare alike
 

@@ -1,5 +1,5 @@
 -- Lists of commands, done one after another.
-use Rattle.std.proofs.Common.{◌≡◌, ◌↔◌, ℕ, ◌+◌, ◌-◌, ◌<◌, ◌≤◌, Bool, true, false, cond, IsTrue, List, [], ◌∷◌, ◌++◌, length, take, get_or, Some, None, Option, refl, sym, ap, subst, ◌∙◌, arith}
+use Rattle.std.proofs.Common.{◌≡◌, ℕ, ◌+◌, ◌-◌, ◌<◌, Bool, true, false, cond, List, [], ◌∷◌, ◌++◌, length, take, get_or, Some, None, refl, sym, ap, subst, ◌∙◌, arith}
 use Rattle.std.specs.Prelude.{if◌then◌else◌}
 use Rattle.std.specs.BTreeMap as btree
 use Rattle.std.specs.BTreeMap.{BTreeMap, is_at}
@@ -10,11 +10,11 @@ use Rattle.std.proofs.lemmas.Option.{get_or_from_slice_get}
 use Rattle.sync_path.specs.Paths.{Node, path_cmp}
 use Rattle.sync_command.specs.Changes.{Change}
 use Rattle.sync_command.specs.Maps.{IsTreeMap, Store, at, store, stored}
-use Rattle.sync_command.specs.Trees.{Holding, IsApplicable, IsTree, Takes, put, result_of}
+use Rattle.sync_command.specs.Trees.{Holding, IsApplicable, Takes, put, result_of}
 use Rattle.sync_command.specs.Values.{is_empty}
 use Rattle.sync_command.specs.declared.values.Value.{Value}
-use Rattle.sync_command.specs.declared.values.Value.TheVariants.{Dir, Empty, File}
-use Rattle.apply_model.specs.Replays.{IsRefused, IsStopped, before}
+use Rattle.sync_command.specs.declared.values.Value.TheVariants.{Empty}
+use Rattle.apply_model.specs.Replays.{IsRefused, IsStopped}
 use Rattle.apply_model.proofs.Kept.{at-stored, empty_is, kept_tree}
 use Rattle.apply_model.proofs.Rising.{inserted_is, removed_is}
 

@@ -1,9 +1,8 @@
 -- When a tree with one value changed is a tree again.
 use Rattle.std.specs.Prelude.{if◌then◌else◌}
-use Rattle.std.proofs.Common.{not, ◌≡◌, ◌↔◌, ℕ, zero, suc, ◌<◌, ◌≤◌, length, Bool, true, false, IsTrue, List, [], ◌∷◌, ◌++◌, Some, None, Option, refl, sym, ap, subst, ◌∙◌, arith, length-append, append_assoc}
-use Rattle.sync_path.specs.Paths.{Node, IsUnder, parent, same_path, comes_before}
-use Rattle.sync_path.proofs.OrderLaws.{parent_is, under_parent, same_path_is, child_after}
-use Rattle.sync_command.specs.Changes.{Change}
+use Rattle.std.proofs.Common.{not, ◌≡◌, ◌↔◌, ℕ, zero, suc, ◌<◌, ◌≤◌, length, Bool, true, false, IsTrue, List, [], ◌∷◌, ◌++◌, Some, Option, refl, sym, ap, subst, ◌∙◌, arith, length-append, append_assoc}
+use Rattle.sync_path.specs.Paths.{Node, IsUnder, parent, same_path}
+use Rattle.sync_path.proofs.OrderLaws.{parent_is, under_parent, same_path_is}
 use Rattle.sync_command.specs.Trees.{Holding, IsTree, put}
 use Rattle.sync_command.specs.Values.{is_dir, is_empty}
 use Rattle.sync_command.specs.declared.values.Value.{Value}

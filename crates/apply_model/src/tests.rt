@@ -12,6 +12,15 @@ fn command(alloc: Global, path: &[u8], old: &[u8], new_value: &[u8]) -> Result<C
     Ok(Command::new(path, old, new_value)?)
 }
 
+/// Whether the command was done.
+fn was_done(tree: &mut TreeMap, command: &Command) -> Result<bool, Fail> {
+    match tree.apply(command) {
+        Ok(()) => Ok(true),
+        Err(Break::NotTaken) => Ok(false),
+        Err(Break::Memory) => Err(Fail::from("out of memory")),
+    }
+}
+
 /// The tree's rows, a line each.
 fn text(alloc: Global, tree: &TreeMap) -> Result<Vec<u8>, Fail> {
     let mut out = Vec::new(alloc);
@@ -26,54 +35,35 @@ fn text(alloc: Global, tree: &TreeMap) -> Result<Vec<u8>, Fail> {
 }
 
 #[test]
-fn commands_are_replayed(rt: HostRuntime) -> Result<(), Fail> {
+fn commands_are_done_or_refused(rt: HostRuntime) -> Result<(), Fail> {
     let alloc = rt.alloc();
     let mut tree = TreeMap::new(alloc);
-    let mut commands = Vec::new(alloc);
-    commands.push(command(alloc, b"a", b"-", b"d")?)?;
-    commands.push(command(alloc, b"a/x", b"-", b"f:1")?)?;
-    commands.push(command(alloc, b"a+", b"-", b"f:2")?)?;
-    replay(&mut tree, &commands)?;
-    assert_eq!(rt;
-        text(alloc, &tree)?.as_slice(),
-        b"a d\na/x f:1\na+ f:2\n".as_slice()
-    );
-    let copied = tree.copy(alloc)?;
-    let again = TreeMap::from_rows(alloc, tree.rows(alloc)?)?;
-    assert_eq!(rt;
-        text(alloc, &copied)?.as_slice(),
-        b"a d\na/x f:1\na+ f:2\n".as_slice()
-    );
-    assert_eq!(rt;
-        text(alloc, &again)?.as_slice(),
-        b"a d\na/x f:1\na+ f:2\n".as_slice()
-    );
-    let path = Path::read(alloc, b"a/x")?;
-    assert!(rt; copied.get(&path).is_some());
-    Ok(())
-}
-
-#[test]
-fn refused_commands_change_nothing(rt: HostRuntime) -> Result<(), Fail> {
-    let alloc = rt.alloc();
-    let mut tree = TreeMap::new(alloc);
-    tree.apply(&command(alloc, b"a", b"-", b"d")?)?;
-    tree.apply(&command(alloc, b"a/x", b"-", b"f:1")?)?;
-    let refused = [
-        command(alloc, b"a", b"d", b"-")?,
-        command(alloc, b"a", b"d", b"f:1")?,
-        command(alloc, b"b/x", b"-", b"f:1")?,
-        command(alloc, b"a/x/y", b"-", b"d")?,
-        command(alloc, b"a/x", b"f:2", b"f:1")?,
-    ];
-    for command in &refused {
-        assert!(rt; !tree.takes(command));
-        assert!(rt; matches!(tree.apply(command), Err(Break::NotTaken)));
+    for (path, old, new_value, done) in [
+        (b"a/x".as_slice(), b"-".as_slice(), b"f:1".as_slice(), false),
+        (b"a", b"-", b"d", true),
+        (b"a/x", b"-", b"f:1", true),
+        (b"a+", b"-", b"f:2", true),
+        (b"a", b"d", b"-", false),
+        (b"a", b"d", b"f:1", false),
+        (b"b/x", b"-", b"f:1", false),
+        (b"a/x/y", b"-", b"d", false),
+        (b"a/x", b"f:2", b"f:1", false),
+        (b"a/x", b"f:1", b"f:3", true),
+    ] {
+        let command = command(alloc, path, old, new_value)?;
+        assert_eq!(rt; tree.takes(&command), done);
+        assert_eq!(rt; was_done(&mut tree, &command)?, done);
     }
     assert_eq!(rt;
         text(alloc, &tree)?.as_slice(),
-        b"a d\na/x f:1\n".as_slice()
+        b"a d\na/x f:3\na+ f:2\n".as_slice()
     );
+    let again = TreeMap::from_rows(alloc, tree.rows(alloc)?)?;
+    assert_eq!(rt;
+        text(alloc, &again)?.as_slice(),
+        b"a d\na/x f:3\na+ f:2\n".as_slice()
+    );
+    assert!(rt; tree.copy(alloc)?.get(&Path::read(alloc, b"a+")?).is_some());
     Ok(())
 }
 
@@ -81,11 +71,11 @@ fn refused_commands_change_nothing(rt: HostRuntime) -> Result<(), Fail> {
 fn replays_name_the_command(rt: HostRuntime) -> Result<(), Fail> {
     let alloc = rt.alloc();
     let mut tree = TreeMap::new(alloc);
-    tree.apply(&command(alloc, b"a", b"-", b"f:1")?)?;
     let commands = [
-        command(alloc, b"a", b"f:1", b"f:2")?,
+        command(alloc, b"a", b"-", b"f:2")?,
         command(alloc, b"a", b"f:3", b"f:4")?,
     ];
+    assert!(rt; replay(&mut tree, &[]).is_ok());
     assert!(rt;
         matches!(
             replay(&mut tree, &commands),

@@ -9,57 +9,57 @@ use thiserror::Error;
 /// What is wrong with a line. It is shown as messages print it.
 #[derive(Clone, Copy, Debug, PartialEq, Eq, Error)]
 pub enum TextKind {
-    /// The first line is not the form's, or has no line feed.
+    /// The text does not begin with the form's first line and a line feed.
     #[error("header")]
     Header,
-    /// The line has not the number of fields of its form.
+    /// Split at its spaces, the line has too few fields or too many.
     #[error("fields")]
     Fields,
-    /// 2^20 lines of the form stand before it.
+    /// This line would be one more than the 2^20 that a text may have.
     #[error("too-many")]
     TooMany,
-    /// The rule takes more than one node, and 256 such rules stand before it.
+    /// This rule would be one more than the 256 that may speak of many nodes.
     #[error("too-wide")]
     TooWide,
-    /// The field is not the decimal spelling of a log's number, 1 to 64.
+    /// A log's number is out of 1 to 64, or not spelled in plain decimal.
     #[error("number")]
     Number,
-    /// A field is not a path's text.
+    /// What should name a path is no text of one.
     #[error("path")]
     Path,
-    /// A field is not a value's text.
+    /// What should spell a value is no text of one.
     #[error("value")]
     Value,
-    /// The old and the new value are equal.
+    /// The command would change nothing.
     #[error("same")]
     Same,
-    /// The value of a row is Empty.
+    /// The row would hold nothing.
     #[error("empty")]
     Empty,
-    /// The row's path is not greater than that of the row before it.
+    /// The path does not come after that of the previous row.
     #[error("order")]
     Order,
-    /// The row's path has a parent, and no earlier row gives it as a directory.
+    /// The path is a child, and its parent was not listed as a directory.
     #[error("parent")]
     Parent,
-    /// The text ends before an end line was read.
+    /// The text breaks off without an end line.
     #[error("end")]
     End,
-    /// The end line does not spell the number of lines of the form.
+    /// The end line's number is not that of the lines, in plain decimal.
     #[error("count")]
     Count,
-    /// Something stands behind the end line.
+    /// There are bytes after the end line.
     #[error("after")]
     After,
 }
 
-/// The first line that cannot stand, counted from 1, and the first kind that applies to it.
+/// Where a text goes wrong first, and in what way.
 #[derive(Clone, Copy, Debug, PartialEq, Eq, Error)]
 #[error("line {line}: {kind}")]
 pub struct TextFault {
     /// The line's number, from 1.
     pub line: u64,
-    /// The first kind that applies to it.
+    /// What is wrong with it: of several kinds the one that its form looks for first.
     pub kind: TextKind,
 }
 
@@ -73,7 +73,7 @@ pub enum LogFault {
     Memory,
 }
 
-/// Why a line was not read: the first kind that applies to it, or want of memory.
+/// Why a line was not read: what is wrong with it, or want of memory.
 #[derive(Debug, Drop, Error)]
 pub enum LineFault {
     #[error("{0}")]

@@ -22,10 +22,10 @@ use sync_path::bytes::cut_at;
 
 /// Reads the text of a log of at most 2^20 commands.
 ///
-/// The answer is the list whose text it is. Where it is the text of none, the fault names the first
-/// line that cannot stand, counted from 1, and the first kind that applies to it: Header for the
-/// first line; End, Count and After for the end of the text; and for a line between them Fields,
-/// TooMany, Path, Value and Same, in this order. Memory may run out at any time.
+/// The answer is the list whose text it is. A text of no log is refused at its earliest wrong line,
+/// lines counted from 1: with Header at the first line; with End, Count or After where the text ends;
+/// and with Fields, TooMany, Path, Value or Same at a line between them, looked for in this order.
+/// Memory may run out at any time.
 #[tactic(auto, unfolding(crate::specs::Logs::log_of))]
 pub fn read_log(alloc: Global, text: &[u8]) -> Result<Vec<Command>, LogFault>
     ensures { GivesText (λ v. v.items) result (log_of (parts 10 text.now)) }

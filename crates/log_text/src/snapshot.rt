@@ -22,10 +22,10 @@ use sync_path::{NoMemory, Path};
 
 /// Reads the text of a snapshot of at most 2^20 rows, which are a tree in path order.
 ///
-/// The answer is the list whose text it is. Where it is the text of none, the fault names the first
-/// line that cannot stand, counted from 1, and the first kind that applies to it: Header for the
-/// first line; End, Count and After for the end of the text; and for a line between them Fields,
-/// TooMany, Path, Value, Empty, Order and Parent, in this order. Memory may run out at any time.
+/// The answer is the list whose text it is. A text of no snapshot is refused at its earliest wrong
+/// line, lines counted from 1: with Header at the first line; with End, Count or After where the text
+/// ends; and with Fields, TooMany, Path, Value, Empty, Order or Parent at a line between them, looked
+/// for in this order. Memory may run out at any time.
 #[tactic(auto, unfolding(crate::specs::Snapshots::snapshot_of))]
 pub fn read_snapshot(alloc: Global, text: &[u8]) -> Result<Vec<Row>, LogFault>
     ensures reads { GivesText (λ v. v.items) result (snapshot_of (parts 10 text.now)) }

@@ -1,4 +1,4 @@
-use Rattle.std.proofs.Common.{subst, sym, ◌∙◌}
+use Rattle.std.proofs.Common.{subst, ◌∙◌}
 use Rattle.sync_command.specs.Maps.{IsTreeMap}
 use Rattle.apply_model.proofs.Runs.{done_inserted, done_removed, still_tree}
 use Rattle.apply_model.proofs.tree_map.TreeMap.apply.Goals as goal

@@ -1,4 +1,4 @@
-use Rattle.std.proofs.Common.{◌≡◌, ◌<◌, length, sym, subst, ◌∙◌}
+use Rattle.std.proofs.Common.{◌<◌, sym, subst, ◌∙◌}
 use Rattle.std.proofs.lemmas.Bool.{both_ways}
 use Rattle.sync_command.specs.Maps.{IsTreeMap}
 use Rattle.apply_model.proofs.Neighbours.{below_neither, below_nothing, below_parent, below_root, below_under}

@@ -1,4 +1,4 @@
-use Rattle.std.proofs.Common.{◌≡◌, ◌↔◌, ◌<◌, IsTrue, ap, length, subst, sym, ◌∙◌}
+use Rattle.std.proofs.Common.{◌↔◌, ◌<◌, IsTrue, ap, length, subst, sym, ◌∙◌}
 use Rattle.sync_command.specs.Maps.{IsTreeMap, at}
 use Rattle.sync_command.specs.Values.{is_dir, is_empty}
 use Rattle.apply_model.specs.Parents.{HoldsUnder, IsBelowDir}
