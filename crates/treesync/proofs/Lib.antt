@@ -1,0 +1,4 @@
+pub mod Checks
+pub mod Sending
+pub mod Words
+pub mod Jobs
