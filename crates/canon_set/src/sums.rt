@@ -8,7 +8,7 @@ ghost use Rattle.canon_set.specs.declared.faults.AddFault.TheVariants.{Broken};
 ghost use Rattle.canon_set.specs.Logs.{IsTaken, net};
 ghost use Rattle.canon_set.specs.Sets.{canonical};
 ghost use Rattle.canon_set.specs.Following.{CanFollow, HoldsOld, HasRoom, HasNoChild, IsFree};
-ghost use Rattle.canon_set.specs.Sums.{StandsFor};
+ghost use Rattle.canon_set.specs.Sums.{IsSum, StandsFor};
 ghost use Rattle.canon_set.specs.Tables.{touch_at, place_of, is_full};
 
 use crate::full::{put, settle};
@@ -21,8 +21,8 @@ use std::ops::Bound;
 use sync_command::Command;
 use sync_path::{NoMemory, Path};
 
-/// The sum of a log that some tree takes: how many commands it has, and the nodes that they touch, in order of first
-/// touch.
+/// The sum of a log that some tree takes ("Sums of logs" in `docs/MODEL.md`): how many commands it has, and the nodes
+/// that they touch, in order of first touch.
 #[derive(Drop)]
 pub struct LogSum {
     alloc: Global,
@@ -65,21 +65,23 @@ impl LogSum {
         }
     }
 
-    /// The number of commands.
+    /// The number of commands that were added. Takes no memory.
     pub fn count(&self) -> usize
         ensures { result ≡ self.now.count }
     {
         self.count
     }
 
-    /// The number of touched nodes.
+    /// The number of touched nodes. Each sum is that of some log. Takes no memory.
     pub fn touched(&self) -> usize
-        ensures { result ≡ length self.now.touched }
+        ensures nodes { result ≡ length self.now.touched }
+        ensures log { IsSum self.now }
     {
         self.touches.len()
     }
 
-    /// The touched node at a place, in order of first touch; places count from 0.
+    /// The touched node at a place, in order of first touch; places count from 0 and are below `touched`. Takes no
+    /// memory.
     pub fn touch(&self, place: usize) -> &Touch
         requires { place < length self.now.touched }
         ensures { result.now ≡ slice_index_or self.now.touched place result.now }
@@ -111,7 +113,8 @@ impl LogSum {
         self.full.contains(path)
     }
 
-    /// Whether some node under this one is known to hold something after the log.
+    /// Whether some node under this one is known to hold something after the log: what is under a path comes right
+    /// after it in the path order. The depth tells that the path has a name.
     pub(crate) fn has_full_under(&self, path: &Path) -> bool
         ensures { IsTrue result ↔ ((p : Node) × (is_under p path.now ≡ true) × (is_full self.now.touched p ≡ true)) }
     {
@@ -193,8 +196,9 @@ impl LogSum {
         self.is_free(path, !is_empty(command.old()))
     }
 
-    /// Adds a command to the log's end. `Broken` comes exactly where no tree takes the log with the command; after a
-    /// refusal the sum is what it was.
+    /// Adds a command to the log's end ("Sums of logs" in `docs/MODEL.md`). `Broken` comes exactly where some tree takes
+    /// the log so far and no tree takes it with this command; `Memory` where memory runs out. After both the sum is
+    /// what it was.
     pub fn add(&mut self, command: Command) -> Result<(), AddFault>
         ensures ok { OnOk result ((cs : List Change) → StandsFor self.old cs → StandsFor self.new (cs ++ command ∷ [])) }
         ensures broken { (cs : List Change) → StandsFor self.old cs → result ≡ Err Broken → IsTaken (cs ++ command ∷ []) → ⊥ }
@@ -215,7 +219,8 @@ impl LogSum {
         Ok(())
     }
 
-    /// The net set of the log.
+    /// The net set of the log ("Net sets" in `docs/MODEL.md`): for each touched node whose first and last value differ
+    /// the command between them, in the admissible order.
     pub fn net(&self, alloc: Global) -> Result<CanonSet, NoMemory>
         ensures { (cs : List Change) → StandsFor self.now cs → IfOk result (λ s. s ≡ canonical (net cs)) }
     {

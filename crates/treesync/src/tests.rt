@@ -294,7 +294,7 @@ fn each_failing_call_is_a_failed_read(rt: HostRuntime) -> Result<(), Fail> {
         if got.status == 0 {
             break;
         }
-        failed += 1u64;
+        failed = number;
         assert_eq!(rt; got.status, 3);
         assert_eq!(rt; got.printed.len(), 0);
     }
