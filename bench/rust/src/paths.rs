@@ -8,12 +8,17 @@ pub struct Path {
     names: String,
 }
 
-fn is_name(name: &str) -> bool {
+fn is_name(name: &[u8]) -> bool {
     !name.is_empty()
         && name.len() <= 255
-        && name != "."
-        && name != ".."
-        && !name.starts_with(".sync-")
+        && name != b"."
+        && name != b".."
+        && !name.starts_with(b".sync-")
+}
+
+/// Whether a byte stands between two names.
+fn is_mark(byte: &u8) -> bool {
+    *byte == 0
 }
 
 impl Path {
@@ -31,7 +36,7 @@ impl Path {
             }
         }
         let names = String::from_utf8(bytes).ok()?;
-        (depth <= 64 && names.split('\0').all(is_name)).then_some(Path { names })
+        (depth <= 64 && names.as_bytes().split(is_mark).all(is_name)).then_some(Path { names })
     }
 
     /// The path of names that are joined by NUL.
@@ -60,11 +65,11 @@ impl Path {
 
     /// Appends the path's text.
     pub fn print_to(&self, out: &mut Vec<u8>) {
-        for (place, name) in self.names.split('\0').enumerate() {
+        for (place, name) in self.names.as_bytes().split(is_mark).enumerate() {
             if place > 0 {
                 out.push(b'/');
             }
-            escape_to(name.as_bytes(), out);
+            escape_to(name, out);
         }
     }
 }

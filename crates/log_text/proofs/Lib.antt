@@ -6,3 +6,4 @@ pub mod FrameLaws
 pub mod ValueLaws
 pub mod LogLaws
 pub mod RowLaws
+pub mod LineFeeds

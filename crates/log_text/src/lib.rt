@@ -3,6 +3,7 @@
 //! `docs/FORMATS.md` tells the forms and the order of the faults; `specs/Frame.antt` defines what they share.
 #![tactic(auto)]
 
+mod cuts;
 mod faults;
 pub mod frame;
 pub mod laws;

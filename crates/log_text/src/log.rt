@@ -10,6 +10,7 @@ ghost use Rattle.log_text.specs.Frame.{body_of, ended};
 ghost use Rattle.log_text.specs.Logs.{log_of, log_text, judge_change, change_of, change_from};
 ghost use Rattle.log_text.specs.Reading.{GivesText, GivesLine};
 
+use crate::cuts::cut_line;
 use crate::faults::{LineFault, LogFault, TextKind};
 use crate::frame::{
     Fields, end_fault, fault_behind, fields_of, header_fault, line_fault, print_end, read_path,
@@ -18,7 +19,6 @@ use crate::frame::{
 use std::alloc::Global;
 use sync_command::Command;
 use sync_path::NoMemory;
-use sync_path::bytes::cut_at;
 
 /// Reads the text of a log of at most 2^20 commands.
 ///
@@ -30,7 +30,7 @@ use sync_path::bytes::cut_at;
 pub fn read_log(alloc: Global, text: &[u8]) -> Result<Vec<Command>, LogFault>
     ensures { GivesText (λ v. v.items) result (log_of (parts 10 text.now)) }
 {
-    let (first, more) = cut_at(text, b'\n');
+    let (first, more) = cut_line(text);
     let Some(rest) = more else {
         return Err(header_fault());
     };
@@ -48,7 +48,7 @@ fn read_commands(alloc: Global, text: &[u8]) -> Result<Vec<Command>, LogFault>
     let mut commands = Vec::new(alloc);
     let mut rest = text;
     'lines: loop {
-        let (line, more) = cut_at(rest, b'\n');
+        let (line, more) = cut_line(rest);
         let Some(after) = more else {
             return Err(LogFault::Text(fault_behind(number_of(&commands), TextKind::End)));
         };
