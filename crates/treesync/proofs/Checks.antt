@@ -1,10 +1,10 @@
 -- One check after another keeps what a function that makes them owes.
-use Rattle.std.proofs.Common.{◌≡◌, ◌⊎◌, ◌≤◌, ◌<◌, ◌+◌, ◌^◌, ◌-◌, min, ℕ, None, Some, Ok, Err, inl, inr, refl, sym, subst, ◌∙◌, arith}
+use Rattle.std.proofs.Common.{◌≡◌, ◌≤◌, ℕ, None, Some, Ok, Err, inl, inr, refl, subst, ◌∙◌, arith}
 use Rattle.std.specs.declared.option.Option.{Option}
 use Rattle.std.specs.declared.result.Result.{Result}
 use Rattle.sync_port.specs.Told.{Rose, Told}
 use Rattle.sync_port.specs.Ports.{Names, Shelf}
-use Rattle.treesync.specs.Answers.{Answers, IsAllowed, IsRight, HasRisen, IsJudged, IsOfJob, Then, seen}
+use Rattle.treesync.specs.Answers.{Answers, IsAllowed, IsRight, IsJudged, IsOfJob, Then, seen}
 use Rattle.treesync.specs.declared.refusal.Refusal.{Refusal}
 use Rattle.treesync.specs.declared.refusal.Refusal.TheVariants.{Words, Read, TooLarge, Text, NoTree, NotTaken, Memory}
 

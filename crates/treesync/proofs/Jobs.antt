@@ -1,5 +1,5 @@
 -- What the jobs' refusals mean, and the chain of a replay's checks.
-use Rattle.std.proofs.Common.{◌≡◌, ◌-◌, ◌<◌, ◌≤◌, ℕ, List, Result, Ok, Err, Vec, Global, take, length, refl}
+use Rattle.std.proofs.Common.{◌≡◌, ℕ, List, Result, Ok, Err, Vec, Global, refl}
 use Rattle.std.specs.declared.option.Option.{Option}
 use Rattle.sync_command.specs.declared.commands.Row.{Row}
 use Rattle.sync_command.specs.declared.commands.Command.{Command}
@@ -10,7 +10,6 @@ use Rattle.apply_model.specs.Entries.{store_of}
 use Rattle.apply_model.specs.Replays.{BreaksOff}
 use Rattle.apply_model.specs.declared.faults.RunBreak.{RunBreak}
 use Rattle.apply_model.specs.declared.faults.RunBreak.TheVariants as run
-use Rattle.canon_set.specs.Logs.{IsTaken}
 use Rattle.canon_set.specs.declared.sets.CanonSet.{CanonSet}
 use Rattle.canon_set.specs.declared.faults.CanonFault.{CanonFault}
 use Rattle.canon_set.specs.declared.faults.CanonFault.TheVariants as canon

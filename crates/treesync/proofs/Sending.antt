@@ -1,6 +1,5 @@
 -- Texts that are sent one after another.
-use Rattle.std.proofs.Common.{◌≡◌, ◌≤◌, ◌+◌, ◌++◌, ◌-◌, ℕ, List, [], ◌∷◌, take, drop, length, min, None, Some, Ok, Err, Result, refl, sym, ap, ◌∙◌, arith, append_assoc, zero, suc, map, Option, append-nil, suc-add}
-use Rattle.std.proofs.lemmas.List.{take-append-drop, take-append-le}
+use Rattle.std.proofs.Common.{◌≡◌, ◌≤◌, ◌+◌, ◌++◌, ℕ, List, [], ◌∷◌, take, length, None, Some, Ok, Err, Result, refl, sym, ap, ◌∙◌, arith, append_assoc, zero, suc, map, Option, append-nil, suc-add}
 use Rattle.std.proofs.Math.Seq.{take-length}
 use Rattle.std.proofs.Common.{String, Global, string_bytes, get_or, ◌<◌, Bor, subst}
 use Rattle.std.specs.List.{concat}

@@ -1,10 +1,9 @@
 -- What the words' own refusal does to the status, and how a run ends.
-use Rattle.std.proofs.Common.{◌≡◌, ◌⊎◌, ◌≤◌, ℕ, List, Option, Result, None, Some, Ok, Err, Vec, Global, inl, inr, refl, ◌∙◌, sym, subst, arith}
+use Rattle.std.proofs.Common.{◌≡◌, ◌⊎◌, ℕ, Option, Result, None, Some, Ok, Err, Vec, Global, inl, inr, refl, sym, subst, arith}
 use Rattle.sync_port.specs.Told.{Rose, Told}
-use Rattle.sync_port.specs.Ports.{Names, Shelf, Wrote}
+use Rattle.sync_port.specs.Ports.{Shelf, Wrote}
 use Rattle.tool_words.specs.declared.job.Job.{Job}
-use Rattle.treesync.specs.Answers.{Answers, IsAllowed, IsOfJob, seen}
-use Rattle.treesync.specs.Messages.{status_of}
+use Rattle.treesync.specs.Answers.{Answers, IsAllowed, seen}
 use Rattle.treesync.specs.Ends.{Prints}
 use Rattle.treesync.specs.Jobs.{Finds, IsAnswerOf, IsJobAnswer, IsOfWords}
 use Rattle.treesync.specs.declared.refusal.Refusal.{Refusal}

@@ -1,5 +1,5 @@
 -- The status of each refusal, and its line on the error sink.
-use Rattle.std.specs.Prelude.{ℕ, ◌+◌, ◌<◌, ◌^◌, List, [], ◌∷◌, codes, decimal, zero, suc}
+use Rattle.std.specs.Prelude.{ℕ, ◌+◌, List, [], ◌∷◌, codes, decimal, zero, suc}
 use Rattle.std.specs.List.{concat}
 use Rattle.treesync.specs.declared.refusal.Refusal.{Refusal}
 use Rattle.treesync.specs.declared.refusal.Refusal.TheVariants.{Words, Read, TooLarge, Text, NoTree, NotTaken, Memory}

@@ -1,7 +1,7 @@
 //! The top call: the answer of the words, and its end.
 
 ghost use Rattle.std.specs.Prelude.{◌≡◌, ◌⊎◌, ◌≤◌, None, Ok, map, string_bytes};
-ghost use Rattle.sync_port.specs.Told.{Rose};
+ghost use Rattle.sync_port.specs.Told.{Rose, Told};
 ghost use Rattle.tool_words.specs.Jobs.{job_of};
 ghost use Rattle.tool_words.specs.Help.{help_text};
 ghost use Rattle.treesync.specs.Answers.{Answers, IsJudged};
@@ -54,7 +54,7 @@ fn find<F: Files>(alloc: Global, words: &[String], files: &mut F) -> Result<Vec<
 /// `words` are those behind the program's name, and name files of `files`. On status 0 the job's whole text was
 /// written to `out`, which was flushed. After every other status but 4 `out` gained nothing, and after 4 a front of
 /// the text. On a refusal `err` gained its one line, or a front of it where writing to `err` failed, which changes
-/// no status. Status 16 may come at any time.
+/// no status. What the files hold is as before, and no count of faults falls. Status 16 may come at any time.
 pub fn run<F: Files, O: Sink, E: Sink>(
     alloc: Global,
     words: &[String],
@@ -68,6 +68,7 @@ pub fn run<F: Files, O: Sink, E: Sink>(
         (E.told err.old) (E.told err.new) (Rose (E.faults err.old) (E.faults err.new)) result }
     ensures refused { result ≡ 2 → job_of (map string_bytes words.now) ≡ None }
     ensures no_job { job_of (map string_bytes words.now) ≡ None → (result ≡ 2) ⊎ (result ≡ 16) }
+    ensures held { Told (F.told files.old) (F.told files.new) (λ m k. k.held ≡ m.held) }
     ensures files { F.faults files.old ≤ F.faults files.new }
     ensures out { O.faults out.old ≤ O.faults out.new }
     ensures err { E.faults err.old ≤ E.faults err.new }
