@@ -230,6 +230,60 @@ fn texts_are_judged(rt: HostRuntime) -> Result<(), Fail> {
 }
 
 #[test]
+fn odd_bytes_are_named(rt: HostRuntime) -> Result<(), Fail> {
+    let alloc = rt.alloc();
+    sums(
+        &rt,
+        alloc,
+        "treelog 1\r\nend 0\r\n",
+        5,
+        "treesync: l1: line 1: header\n",
+    )?;
+    sums(
+        &rt,
+        alloc,
+        "treelog 1\na - d\r\nend 1\n",
+        5,
+        "treesync: l1: line 2: value\n",
+    )?;
+    sums(
+        &rt,
+        alloc,
+        "treelog 1\n\nend 0\n",
+        5,
+        "treesync: l1: line 2: fields\n",
+    )?;
+    sums(
+        &rt,
+        alloc,
+        "treelog 1\na% - d\nend 1\n",
+        5,
+        "treesync: l1: line 2: path\n",
+    )?;
+    sums(
+        &rt,
+        alloc,
+        "treelog 1\n%41 - d\nend 1\n",
+        5,
+        "treesync: l1: line 2: path\n",
+    )?;
+    sums(
+        &rt,
+        alloc,
+        "treelog 1\n\u{e9} - d\nend 1\n",
+        5,
+        "treesync: l1: line 2: path\n",
+    )?;
+    sums(
+        &rt,
+        alloc,
+        "treelog 1\n.sync-x - d\nend 1\n",
+        5,
+        "treesync: l1: line 2: path\n",
+    )
+}
+
+#[test]
 fn words_are_judged_first(rt: HostRuntime) -> Result<(), Fail> {
     let alloc = rt.alloc();
     let help = "usage: treesync COMMAND WORDS\n  replay SNAP LOG\n  canon LOG\n";
