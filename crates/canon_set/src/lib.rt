@@ -8,6 +8,8 @@ mod full;
 pub mod laws;
 mod logs;
 mod sets;
+#[cfg(test)]
+mod small_logs;
 mod sums;
 #[cfg(test)]
 mod tests;
