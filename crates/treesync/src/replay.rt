@@ -27,17 +27,19 @@ fn refusal_of(fault: RunBreak) -> Refusal
 }
 
 /// The text of the snapshot with these rows after the commands.
-fn text_after(alloc: Global, rows: Vec<Row>, commands: &[Command]) -> Result<Vec<u8>, Refusal>
+fn text_after(alloc: Global, rows: Vec<Row>, commands: Vec<Command>) -> Result<Vec<u8>, Refusal>
     requires { IsRowTree rows.items }
-    ensures { IsJudged (λ text. text.items) (IsAfter rows.items commands.now) result }
+    ensures { IsJudged (λ text. text.items) (IsAfter rows.items commands.items) result }
 {
     let Ok(mut tree) = TreeMap::from_rows(alloc, rows) else {
         return Err(Refusal::Memory);
     };
-    match replay_on(&mut tree, commands) {
+    match replay_on(&mut tree, &commands) {
         Ok(()) => {}
         Err(fault) => return Err(refusal_of(fault)),
     }
+    // a long log need not stay while the text is made
+    drop(commands);
     tree_text(alloc, &tree)
 }
 
@@ -69,7 +71,7 @@ pub fn replay<F: Files>(
         Err(refusal) => return Err(refusal),
     };
     match log_file(alloc, 2, log, files) {
-        Ok(commands) => text_after(alloc, rows, &commands),
+        Ok(commands) => text_after(alloc, rows, commands),
         Err(refusal) => Err(refusal),
     }
 }
