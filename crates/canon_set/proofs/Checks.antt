@@ -1,13 +1,14 @@
 -- The parts of what a further command needs, as the table of the sum decides them.
-use Rattle.std.proofs.Common.{◌≡◌, ◌↔◌, ℕ, zero, suc, ◌+◌, ◌≤◌, ◌<◌, length, Bool, true, false, not, ◌||◌, List, [], ◌∷◌, Option, Some, None, refl, sym, ap, subst, ◌∙◌, arith, ◌⊎◌, inl, inr}
+use Rattle.std.proofs.Common.{◌≡◌, ◌↔◌, ℕ, zero, suc, ◌+◌, ◌<◌, nat_eq, length, Bool, true, false, not, ◌&&◌, ◌||◌, List, [], ◌∷◌, Option, Some, None, refl, sym, ap, subst, ◌∙◌, arith, ◌⊎◌, inl, inr}
 use Rattle.std.specs.Prelude.{if◌then◌else◌, is_some, Result, IfOk}
 use Rattle.std.specs.Option.{option_map}
 use Rattle.std.proofs.lemmas.Result.{IfOk-weaker}
 use Rattle.sync_path.specs.declared.faults.NoMemory.{NoMemory}
 use Rattle.sync_path.specs.Paths.{Node, same_path, is_under, parent}
 use Rattle.sync_command.specs.declared.values.Value.{Value}
-use Rattle.sync_command.specs.Values.{is_empty, is_dir}
-use Rattle.sync_command.specs.Changes.{Change}
+use Rattle.sync_command.specs.declared.values.Value.TheVariants as value
+use Rattle.sync_command.specs.Values.{is_empty, is_dir, same_value}
+use Rattle.sync_command.specs.Changes.{Change, is_change}
 use Rattle.sync_command.specs.Trees.{Holding, result_of, command_at}
 use Rattle.sync_command.specs.Maps.{at}
 use Rattle.canon_set.specs.declared.touches.Touch.{Touch}
@@ -15,13 +16,16 @@ use Rattle.canon_set.specs.Logs.{names, touches}
 use Rattle.canon_set.specs.Leaving.{above, starts_other, gives_other, leaves}
 use Rattle.canon_set.specs.Following.{CanFollow, HoldsOld, HasRoom, HasNoChild, IsFree}
 use Rattle.canon_set.specs.Sums.{Sum, touch_of, StandsFor}
-use Rattle.canon_set.specs.Tables.{touch_at, place_of, is_full}
+use Rattle.canon_set.specs.declared.seats.Seat.{Seat}
+use Rattle.canon_set.specs.Seats.{place_in}
+use Rattle.canon_set.specs.Tables.{touch_at, place_of, is_over, full_by, is_full, is_known, IsSeatOf}
+use Rattle.canon_set.proofs.Tables.{not_placed}
 use Rattle.canon_set.proofs.Nets.{tree-result_of, command_at-node}
 use Rattle.canon_set.proofs.Under.{under_parent, under_down, under_split, under_shorter, HasParentUnder, tree_above}
-use Rattle.canon_set.proofs.Touched.{is_some-touches}
-use Rattle.canon_set.proofs.Leave.{above_named}
+use Rattle.canon_set.proofs.Touched.{is_some-touches, untouched, same_value_at}
+use Rattle.canon_set.proofs.Leave.{above_dir, above_named, above_up}
 use Rattle.canon_set.proofs.Follows.{result_touched}
-use Rattle.canon_set.proofs.Standing.{touch_here, full_of, full_here, IsTouch, touch_is, no_touch, named_touch, not_named, unleft, above_all, full_result}
+use Rattle.canon_set.proofs.Standing.{touch_here, over_here, full_of, full_here, IsTouch, touch_is, no_touch, named_touch, not_named, unleft, above_all, full_result}
 
 not_true : (b : Bool) → (b ≡ true → ⊥) → b ≡ false
 not_true true f = absurd (f refl)
@@ -35,24 +39,8 @@ gives_named (c ∷ cs) p e = step (gives_named cs p) e
     step : (names cs p ≡ false → gives_other cs p ≡ false) → names (c ∷ cs) p ≡ false → gives_other (c ∷ cs) p ≡ false
     step ih e = grind arith
 
--- the child of n on the way down to k
-child_by : (i : ℕ) (k n : Node) → length k ≤ i → is_under k n ≡ true → (p : Node) × (parent p ≡ Some n) × ((p ≡ k) ⊎ (is_under k p ≡ true))
-child_by zero k n short u = let w : HasParentUnder k n = under_split k n u in let l : length w.up < length k = w.shorter in absurd (omega arith)
-child_by (suc i) k n short u = go (under_split k n u) (λ r s v. child_by i r n s v)
-  where
-    go : HasParentUnder k n → ((r : Node) → length r ≤ i → is_under r n ≡ true → (p : Node) × (parent p ≡ Some n) × ((p ≡ r) ⊎ (is_under r p ≡ true))) → (p : Node) × (parent p ≡ Some n) × ((p ≡ k) ⊎ (is_under k p ≡ true))
-    go w rec = split w.way
-      where
-        below : (p : Node) → (p ≡ w.up) ⊎ (is_under w.up p ≡ true) → is_under k p ≡ true
-        below p (inl e) = subst (λ r. is_under k r ≡ true) (sym e) (under_parent w.up k w.is)
-        below p (inr v) = under_down k w.up p w.is v
-
-        split : (w.up ≡ n) ⊎ (is_under w.up n ≡ true) → (p : Node) × (parent p ≡ Some n) × ((p ≡ k) ⊎ (is_under k p ≡ true))
-        split (inl e) = (k, w.is ∙ ap Some e, inl refl)
-        split (inr v) = let l : length w.up < length k = w.shorter in let r = rec w.up (omega arith) v in (r.0, r.1, inr (below r.0 r.2))
-
-child_towards : (k n : Node) → is_under k n ≡ true → (p : Node) × (parent p ≡ Some n) × ((p ≡ k) ⊎ (is_under k p ≡ true))
-child_towards k n u = child_by (length k) k n (omega arith) u
+zero_is : (k : ℕ) → nat_eq k 0 ≡ true → k ≡ 0
+zero_is k e = grind arith
 
 module _ (s : Sum) (cs : List Change) (st : StandsFor s cs) where
   -- ---- the old value
@@ -105,76 +93,71 @@ module _ (s : Sum) (cs : List Change) (st : StandsFor s cs) where
       some_node : {a b : Node} → Some a ≡ Some b → a ≡ b
       some_node e = cc
 
-  pub room_empty : (c : Change) → is_empty c.new ≡ true → HasRoom cs c
-  room_empty c e r d f n g = cc (e, n)
-
   pub room_root : (c : Change) → parent c.node ≡ None → HasRoom cs c
   room_root c e r d f n g = cc (e, f)
 
+  -- what is there after the log
+  pub room_full : (c : Change) → is_empty (result_of (at st.taken.map) cs c.node) ≡ false → HasRoom cs c
+  room_full c full q d e some is = ap is_dir (sym (result_touched (at st.taken.map) cs q d is)) ∙ tree-result_of (at st.taken.map) cs st.taken.tree.tree st.taken.takes q c.node e full
+
   -- ---- the children
-  t : Holding
-  t = at st.taken.map
-
-  pub no_child : (c : Change) (b : Bool) → (b ≡ true) ↔ ((p : Node) × (is_under p c.node ≡ true) × (is_full s.touched p ≡ true)) → (is_dir c.new || not b ≡ true) ↔ HasNoChild cs c
-  no_child c b under = (λ h. record { touched = λ p d e other at. touched (is_dir c.new) b p d e other h at; above = λ p e other none. aboves (is_dir c.new) b p e other h none }, λ h. made (is_dir c.new) b (λ other. not_true b (λ f. clash h other (under.0 f))))
+  pub no_child : (c : Change) (k : ℕ) (b : Bool) → (0 < k → (p : Node) × (parent p ≡ Some c.node) × (is_full s.touched p ≡ true)) → (k ≡ 0 → (p : Node) → parent p ≡ Some c.node → is_full s.touched p ≡ false) →
+      is_dir c.new ≡ false → b ≡ nat_eq k 0 → (b ≡ true) ↔ HasNoChild cs c
+  no_child c k b child none other is = (λ h. record { touched = λ p d e _ is. touched p d e is (gone h p e); above = λ p e _ low. aboves p (command_at (touches cs) p) refl low (gone h p e) }, λ h. made h k refl)
     where
-      made : (x b : Bool) → (x ≡ false → b ≡ false) → (x || not b) ≡ true
-      made x b h = grind arith
+      gone : b ≡ true → (p : Node) → parent p ≡ Some c.node → is_full s.touched p ≡ false
+      gone h = none (zero_is k (sym is ∙ h))
 
-      free : (x b : Bool) → x ≡ false → (x || not b) ≡ true → b ≡ true → ⊥
-      free x b e h f = grind arith
+      back : (x : Bool) → not x ≡ false → x ≡ true
+      back x e = grind arith
 
-      touched : (x b' : Bool) (p : Node) (d : Change) → parent p ≡ Some c.node → is_dir c.new ≡ false → (is_dir c.new || not b) ≡ true → command_at (touches cs) p ≡ Some d → is_empty d.new ≡ true
-      touched x b' p d e other h at = go (is_empty d.new) refl
+      touched : (p : Node) (d : Change) → parent p ≡ Some c.node → command_at (touches cs) p ≡ Some d → is_full s.touched p ≡ false → is_empty d.new ≡ true
+      touched p d e here low = back (is_empty d.new) (sym (full_here s cs st p ∙ ap (λ o. full_of o (above cs p)) here) ∙ low)
+
+      aboves : (p : Node) (o : Option Change) → command_at (touches cs) p ≡ o → names cs p ≡ false → is_full s.touched p ≡ false → above cs p ≡ false
+      aboves p None e low f = sym (full_here s cs st p ∙ ap (λ o. full_of o (above cs p)) e) ∙ f
+      aboves p (Some d) e low f = cc (low, named_touch cs p d e)
+
+      made : HasNoChild cs c → (j : ℕ) → k ≡ j → b ≡ true
+      made h zero e = is ∙ ap (λ n. nat_eq n 0) e
+      made h (suc j) e = let p = child (omega arith) in absurd (clash p.0 p.1 p.2 (command_at (touches cs) p.0) refl)
         where
-          go : (y : Bool) → is_empty d.new ≡ y → y ≡ true
-          go true e' = refl
-          go false e' = absurd (free (is_dir c.new) b other h (under.1 (p, under_parent c.node p e, full_here s cs st p ∙ ap (λ o. full_of o (above cs p)) at ∙ ap not e')))
-
-      aboves : (x b' : Bool) (p : Node) → parent p ≡ Some c.node → is_dir c.new ≡ false → (is_dir c.new || not b) ≡ true → names cs p ≡ false → above cs p ≡ false
-      aboves x b' p e other h none = not_true (above cs p) (λ up. free (is_dir c.new) b other h (under.1 (p, under_parent c.node p e, full_here s cs st p ∙ go (command_at (touches cs) p) refl up)))
-        where
-          go : (o : Option Change) → command_at (touches cs) p ≡ o → above cs p ≡ true → full_of o (above cs p) ≡ true
-          go None f up = up
-          go (Some d) f up = cc (none, named_touch cs p d f)
-
-      clash : HasNoChild cs c → is_dir c.new ≡ false → ((p : Node) × (is_under p c.node ≡ true) × (is_full s.touched p ≡ true)) → ⊥
-      clash h other k = at_child (child_towards k.0 c.node k.1)
-        where
-          full : full_of (command_at (touches cs) k.0) (above cs k.0) ≡ true
-          full = sym (full_here s cs st k.0) ∙ k.2
-
-          held : is_empty (result_of (at st.taken.map) cs k.0) ≡ false
-          held = full_result cs (at st.taken.map) st.taken.tree.tree st.taken.takes st.change k.0 full
-
-          dir_full : (x y : Bool) → x ≡ true → (x ≡ true → y ≡ false) → y ≡ false
-          dir_full x y e f = f e
-
-          at_child : (p : Node) × (parent p ≡ Some c.node) × ((p ≡ k.0) ⊎ (is_under k.0 p ≡ true)) → ⊥
-          at_child p = go (command_at (touches cs) p.0) refl
+          clash : (p : Node) → parent p ≡ Some c.node → is_full s.touched p ≡ true → (o : Option Change) → command_at (touches cs) p ≡ o → ⊥
+          clash p e full None f = let up : above cs p ≡ true = sym (full_here s cs st p ∙ ap (λ o. full_of o (above cs p)) f) ∙ full in let low : above cs p ≡ false = h.above p e other (not_named cs p f) in cc (up, low)
+          clash p e full (Some d) f = let up : not (is_empty d.new) ≡ true = sym (full_here s cs st p ∙ ap (λ o. full_of o (above cs p)) f) ∙ full in let low : is_empty d.new ≡ true = h.touched p d e other f in flat (is_empty d.new) up low
             where
-              alive : (p.0 ≡ k.0) ⊎ (is_under k.0 p.0 ≡ true) → is_empty (result_of (at st.taken.map) cs p.0) ≡ false
-              alive (inl e) = subst (λ r. is_empty (result_of (at st.taken.map) cs r) ≡ false) (sym e) held
-              alive (inr u) = some (result_of (at st.taken.map) cs p.0) (tree_above (result_of (at st.taken.map) cs) (tree-result_of (at st.taken.map) cs st.taken.tree.tree st.taken.takes) k.0 p.0 u held)
-                where
-                  some : (v : _) → is_dir v ≡ true → is_empty v ≡ false
-                  some v e = grind arith
+              flat : (x : Bool) → not x ≡ true → x ≡ true → ⊥
+              flat x e f = grind arith
 
-              over : names cs p.0 ≡ false → (p.0 ≡ k.0) ⊎ (is_under k.0 p.0 ≡ true) → above cs p.0 ≡ true
-              over none (inl e) = from (command_at (touches cs) k.0) refl full
-                where
-                  from : (o : Option Change) → command_at (touches cs) k.0 ≡ o → full_of o (above cs k.0) ≡ true → above cs p.0 ≡ true
-                  from None f g = ap (above cs) e ∙ g
-                  from (Some d) f g = let n : names cs p.0 ≡ true = ap (names cs) e ∙ named_touch cs k.0 d f in cc (n, none)
-              over none (inr u) = from (command_at (touches cs) k.0) refl full
-                where
-                  from : (o : Option Change) → command_at (touches cs) k.0 ≡ o → full_of o (above cs k.0) ≡ true → above cs p.0 ≡ true
-                  from None f g = above_all cs k.0 p.0 u g
-                  from (Some d) f g = above_named cs k.0 p.0 (named_touch cs k.0 d f) u
+  -- nothing is under what is no directory after the log
+  pub no_child_other : (c : Change) → is_dir (result_of (at st.taken.map) cs c.node) ≡ false → HasNoChild cs c
+  no_child_other c other = record { touched = λ p d e _ is. touched p d e is (is_empty d.new) refl; above = λ p e _ low. aboves p e low (above cs p) refl }
+    where
+      clash : (p : Node) → parent p ≡ Some c.node → is_empty (result_of (at st.taken.map) cs p) ≡ false → ⊥
+      clash p e full = let dir : is_dir (result_of (at st.taken.map) cs c.node) ≡ true = tree-result_of (at st.taken.map) cs st.taken.tree.tree st.taken.takes c.node p e full in cc (dir, other)
 
-              go : (o : Option Change) → command_at (touches cs) p.0 ≡ o → ⊥
-              go (Some d) e = let gone : is_empty (result_of (at st.taken.map) cs p.0) ≡ true = ap is_empty (result_touched (at st.taken.map) cs p.0 d e) ∙ h.touched p.0 d p.1 other e in cc (gone, alive p.2)
-              go None e = let none : names cs p.0 ≡ false = not_named cs p.0 e in let low : above cs p.0 ≡ false = h.above p.0 p.1 other none in cc (low, over none p.2)
+      touched : (p : Node) (d : Change) → parent p ≡ Some c.node → command_at (touches cs) p ≡ Some d → (x : Bool) → is_empty d.new ≡ x → is_empty d.new ≡ true
+      touched p d e is true f = f
+      touched p d e is false f = absurd (clash p e (ap is_empty (result_touched (at st.taken.map) cs p d is) ∙ f))
+
+      aboves : (p : Node) → parent p ≡ Some c.node → names cs p ≡ false → (x : Bool) → above cs p ≡ x → above cs p ≡ false
+      aboves p e low false f = f
+      aboves p e low true f = absurd (clash p e (full_result cs (at st.taken.map) st.taken.tree.tree st.taken.takes st.change p (from (command_at (touches cs) p) refl)))
+        where
+          from : (o : Option Change) → command_at (touches cs) p ≡ o → full_of o (above cs p) ≡ true
+          from None g = f
+          from (Some d) g = cc (low, named_touch cs p d g)
+
+  -- nothing is under a node that is neither touched nor above a touched one
+  pub no_child_unknown : (c : Change) → above cs c.node ≡ false → HasNoChild cs c
+  no_child_unknown c unknown = record { touched = λ p d e _ is. clash (above_named cs p c.node (named_touch cs p d is) (under_parent c.node p e)); above = λ p e _ low. aboves p e (above cs p) refl }
+    where
+      clash : {A : Type 0} → above cs c.node ≡ true → A
+      clash up = cc (up, unknown)
+
+      aboves : (p : Node) → parent p ≡ Some c.node → (x : Bool) → above cs p ≡ x → above cs p ≡ false
+      aboves p e false f = f
+      aboves p e true f = clash (above_up cs p c.node f e)
 
   -- ---- the way up
   un : (q m : Node) → parent m ≡ Some q → names cs m ≡ false → above cs m ≡ true → leaves cs q ≡ false
@@ -306,9 +289,6 @@ module _ (s : Sum) (cs : List Change) (st : StandsFor s cs) (c : Change) (p : No
   pub told_none : (q : Node) (full b : Bool) → q ≡ c.node → None ≡ touch_at s.touched p → full ≡ is_full s.touched q → (b ≡ (not full || is_dir c.old)) → (b ≡ true) ↔ HoldsOld cs c
   told_none q full b there e is how = told b _ how (old_untouched s cs st c full (is_dir c.old) (ap (touch_at s.touched) (sym here) ∙ sym e) (is ∙ ap (is_full s.touched) there) refl)
 
-  pub told_child : (b x : Bool) → (b ≡ true) ↔ ((q : Node) × (is_under q p ≡ true) × (is_full s.touched q ≡ true)) → (x ≡ (is_dir c.new || not b)) → (x ≡ true) ↔ HasNoChild cs c
-  told_child b x under how = told x _ how (no_child s cs st c b (subst (λ r. (b ≡ true) ↔ ((q : Node) × (is_under q r ≡ true) × (is_full s.touched q ≡ true))) here under))
-
   pub told_room : (q : Node) (t : Touch) (b : Bool) → Some q ≡ parent p → is_empty c.new ≡ false → Some t ≡ touch_at s.touched q → b ≡ is_dir t.last → (b ≡ true) ↔ HasRoom cs c
   told_room q t b e full at is = told b _ is (room_touched s cs st c q t (ap parent (sym here) ∙ sym e) full (sym at))
 
@@ -360,24 +340,170 @@ module _ (s : Sum) (cs : List Change) (st : StandsFor s cs) (p : Node) where
       go None f e = inr e
       go (Some d) f e = inl (named_touch cs p d f)
 
-module _ (s : Sum) (cs : List Change) (st : StandsFor s cs) (c : Change) (p : Node) (here : p ≡ c.node) where
-  pub known_place : (o : Option ℕ) (b : Bool) → o ≡ place_of s.touched p → b ≡ is_some o → b ≡ true → (names cs c.node ≡ true) ⊎ (above cs c.node ≡ true)
-  known_place o b is how e = inl (ap (names cs) (sym here) ∙ sym (names_place s cs st p) ∙ ap is_some (sym is) ∙ sym how ∙ e)
+-- ---- whether a command can follow
 
-  pub unknown_place : (o : Option ℕ) (b : Bool) → o ≡ place_of s.touched p → b ≡ is_some o → b ≡ false → names cs c.node ≡ false
-  unknown_place o b is how e = ap (names cs) (sym here) ∙ sym (names_place s cs st p) ∙ ap is_some (sym is) ∙ sym how ∙ e
+other_value : (v w : Value) → (v ≡ w → ⊥) → is_empty v ≡ true → is_empty w ≡ false
+other_value value.Empty value.Empty apart e = absurd (apart refl)
+other_value value.Empty value.Dir apart e = refl
+other_value value.Empty (value.File b) apart e = refl
+other_value value.Dir w apart e = cc (e)
+other_value (value.File b) w apart e = cc (e)
 
-  pub known_by_full : (b : Bool) → b ≡ is_full s.touched p → b ≡ true → (names cs c.node ≡ true) ⊎ (above cs c.node ≡ true)
-  known_by_full b is e = subst (λ q. (names cs q ≡ true) ⊎ (above cs q ≡ true)) here (known_full s cs st p (sym is ∙ e))
+other_dir : (v w : Value) → (v ≡ w → ⊥) → is_dir v ≡ true → is_dir w ≡ false
+other_dir value.Dir value.Dir apart e = absurd (apart refl)
+other_dir value.Dir value.Empty apart e = refl
+other_dir value.Dir (value.File b) apart e = refl
+other_dir value.Empty w apart e = cc (e)
+other_dir (value.File b) w apart e = cc (e)
 
-  pub told_follows : (full : Bool) (r : Result Bool NoMemory) → HoldsOld cs c → HasNoChild cs c → HasRoom cs c → names cs c.node ≡ false → full ≡ not (is_empty c.old) → IfOk r (λ b. (b ≡ true) ↔ IsFree cs p full) → IfOk r (λ b. (b ≡ true) ↔ CanFollow cs c)
-  told_follows full r old child room none is h = IfOk-weaker r _ _ (λ b f. (λ y. follows_free s cs st c old child room (there (f.0 y)), λ can. f.1 (back (free_of s cs st c none can)))) h
+pub no_room : (v w : Value) → (v ≡ w → ⊥) → v ≡ value.Empty → is_empty w ≡ false
+no_room v w apart e = other_value v w apart (ap is_empty e)
+
+-- a command's values differ
+pub differ : (c : Change) → is_change c ≡ true → c.old ≡ c.new → ⊥
+differ c change is = let same : same_value c.old c.new ≡ true = same_value_at c.old c.new is in cc (same, change)
+
+-- the command of a touched node, whose seat tells so
+module _ (s : Sum) (cs : List Change) (st : StandsFor s cs) (c : Change) (differs : c.old ≡ c.new → ⊥) (t : Touch) (here : touch_at s.touched c.node ≡ Some t) where
+  x : IsTouch cs c.node t
+  x = touch_is s cs st c.node t here
+
+  named : names cs c.node ≡ true
+  named = named_touch cs c.node x.change x.at
+
+  -- the node holds its last value after the log
+  holds : result_of (at st.taken.map) cs c.node ≡ t.last
+  holds = result_touched (at st.taken.map) cs c.node x.change x.at ∙ ap (λ u. u.last) x.is
+
+  old_is : t.last ≡ c.old → HoldsOld cs c
+  old_is e = (old_touched s cs st c t true here (λ _. e) (λ _. refl)).0 refl
+
+  pub go_wrong : (t.last ≡ c.old → ⊥) → CanFollow cs c → ⊥
+  go_wrong apart can = let e : false ≡ true = (old_touched s cs st c t false here (λ e. cc (e)) (λ e. absurd (apart e))).1 (old_of cs c can) in cc (e)
+
+  pub go_empty : t.last ≡ c.old → c.old ≡ value.Empty → (b : Bool) → (b ≡ true) ↔ HasRoom cs c → (b ≡ true) ↔ CanFollow cs c
+  go_empty e is b room = (λ h. follows_known s cs st c (old_is e) (no_child_other s cs st c (ap is_dir (holds ∙ e ∙ is))) (room.0 h) (inl named), λ can. room.1 can.new_parent)
+
+  pub go_dir : t.last ≡ c.old → c.old ≡ value.Dir → (k : ℕ) → (0 < k → (p : Node) × (parent p ≡ Some c.node) × (is_full s.touched p ≡ true)) → (k ≡ 0 → (p : Node) → parent p ≡ Some c.node → is_full s.touched p ≡ false) → (nat_eq k 0 ≡ true) ↔ CanFollow cs c
+  go_dir e is k child none = (λ h. follows_known s cs st c (old_is e) (no.0 h) (room_full s cs st c (ap is_empty (holds ∙ e ∙ is))) (inl named), λ can. no.1 (child_of cs c can))
     where
-      there : IsFree cs p full → IsFree cs c.node (not (is_empty c.old))
-      there f = subst (λ x. IsFree cs c.node x) is (subst (λ q. IsFree cs q full) here f)
+      no : (nat_eq k 0 ≡ true) ↔ HasNoChild cs c
+      no = no_child s cs st c k (nat_eq k 0) child none (other_dir c.old c.new differs (ap is_dir is)) refl
 
-      back : IsFree cs c.node (not (is_empty c.old)) → IsFree cs p full
-      back f = subst (λ q. IsFree cs q full) (sym here) (subst (λ x. IsFree cs c.node x) (sym is) f)
+  pub go_file : t.last ≡ c.old → (b : List ℕ) → c.old ≡ value.File b → CanFollow cs c
+  go_file e b is = follows_known s cs st c (old_is e) (no_child_other s cs st c (ap is_dir (holds ∙ e ∙ is))) (room_full s cs st c (ap is_empty (holds ∙ e ∙ is))) (inl named)
+
+-- the command of an untouched node above touched ones
+module _ (s : Sum) (cs : List Change) (st : StandsFor s cs) (c : Change) (differs : c.old ≡ c.new → ⊥) (none : place_of s.touched c.node ≡ None) (known : is_known s.touched c.node ≡ true) where
+  untouched_here : command_at (touches cs) c.node ≡ None
+  untouched_here = no_touch s cs st c.node (not_placed s.touched c.node none)
+
+  up : above cs c.node ≡ true
+  up = sym (over_here s cs st c.node) ∙ sym (ap (λ o. is_some o || is_over s.touched c.node) none) ∙ known
+
+  dir : is_dir (result_of (at st.taken.map) cs c.node) ≡ true
+  dir = ap is_dir (untouched (at st.taken.map) cs c.node (not_named cs c.node untouched_here)) ∙ above_dir (at st.taken.map) cs st.taken.tree.tree st.taken.takes st.change c.node up (not_named cs c.node untouched_here)
+
+  full_dir : (v : Value) → is_dir v ≡ true → is_empty v ≡ false
+  full_dir v e = grind arith
+
+  pub above_wrong : is_dir c.old ≡ false → CanFollow cs c → ⊥
+  above_wrong e can = let f : is_dir c.old ≡ true = can.old_above (not_named cs c.node untouched_here) up in cc (e, f)
+
+  pub above_dirs : is_dir c.old ≡ true → (k : ℕ) → (0 < k → (p : Node) × (parent p ≡ Some c.node) × (is_full s.touched p ≡ true)) → (k ≡ 0 → (p : Node) → parent p ≡ Some c.node → is_full s.touched p ≡ false) → (nat_eq k 0 ≡ true) ↔ CanFollow cs c
+  above_dirs e k child nothing = (λ h. follows_known s cs st c (record { touched = λ d at. cc (untouched_here, at); above = λ _ _. e }) (no.0 h) (room_full s cs st c (full_dir _ dir)) (inr up), λ can. no.1 (child_of cs c can))
+    where
+      no : (nat_eq k 0 ≡ true) ↔ HasNoChild cs c
+      no = no_child s cs st c k (nat_eq k 0) child nothing (other_dir c.old c.new differs e) refl
+
+-- an untouched node above touched ones is full
+pub full_above : (ts : List Touch) (q : Node) → place_of ts q ≡ None → is_known ts q ≡ true → is_full ts q ≡ true
+full_above ts q none known = ap (λ o. full_by o (is_over ts q)) (not_placed ts q none) ∙ sym (ap (λ o. is_some o || is_over ts q) none) ∙ known
+
+-- the command of a node that the table does not know
+module _ (s : Sum) (cs : List Change) (st : StandsFor s cs) (c : Change) (unknown : is_known s.touched c.node ≡ false) where
+  low : above cs c.node ≡ false
+  low = sym (over_here s cs st c.node) ∙ go (place_of s.touched c.node) (is_over s.touched c.node) unknown
+    where
+      go : (o : Option ℕ) (b : Bool) → (is_some o || b) ≡ false → b ≡ false
+      go None b e = e
+      go (Some k) b e = cc (e)
+
+  unplaced : place_of s.touched c.node ≡ None
+  unplaced = go (place_of s.touched c.node) (is_over s.touched c.node) unknown
+    where
+      go : (o : Option ℕ) (b : Bool) → (is_some o || b) ≡ false → o ≡ None
+      go None b e = refl
+      go (Some k) b e = cc (e)
+
+  fresh : command_at (touches cs) c.node ≡ None
+  fresh = no_touch s cs st c.node (not_placed s.touched c.node unplaced)
+
+  opens : HasRoom cs c → IsFree cs c.node (not (is_empty c.old)) → CanFollow cs c
+  opens room free = follows_free s cs st c (record { touched = λ d at. cc (fresh, at); above = λ _ up. cc (up, low) }) (no_child_unknown s cs st c low) room free
+
+  free_here : CanFollow cs c → IsFree cs c.node (not (is_empty c.old))
+  free_here can = free_of s cs st c (not_named cs c.node fresh) can
+
+  pub open_root : parent c.node ≡ None → CanFollow cs c
+  open_root e = opens (room_root s cs st c e) (free_root s cs st c.node (not (is_empty c.old)) e)
+
+  pub open_touched : (q : Node) (t : Touch) (b : Bool) → parent c.node ≡ Some q → touch_at s.touched q ≡ Some t → b ≡ ((is_empty c.new || is_dir t.last) && (is_empty c.old || not t.left_dir)) → (b ≡ true) ↔ CanFollow cs c
+  open_touched q t b e at is = (λ h. let w = both _ _ (sym is ∙ h) in opens (room w.0) (free.0 (flip w.1)), λ can. is ∙ make _ _ (rooms can (is_empty c.new) refl) (back (free.1 (free_here can))))
+    where
+      both : (a b : Bool) → (a && b) ≡ true → (a ≡ true) × (b ≡ true)
+      both a b e = grind arith
+
+      make : (a b : Bool) → a ≡ true → b ≡ true → (a && b) ≡ true
+      make a b e f = grind arith
+
+      free : (not (not (is_empty c.old)) || not t.left_dir ≡ true) ↔ IsFree cs c.node (not (is_empty c.old))
+      free = free_touched s cs st c.node q t (not (is_empty c.old)) e at
+
+      flip : (is_empty c.old || not t.left_dir) ≡ true → (not (not (is_empty c.old)) || not t.left_dir) ≡ true
+      flip h = go (is_empty c.old) t.left_dir h
+        where
+          go : (a b : Bool) → (a || not b) ≡ true → (not (not a) || not b) ≡ true
+          go a b h = grind arith
+
+      back : (not (not (is_empty c.old)) || not t.left_dir) ≡ true → (is_empty c.old || not t.left_dir) ≡ true
+      back h = go (is_empty c.old) t.left_dir h
+        where
+          go : (a b : Bool) → (not (not a) || not b) ≡ true → (a || not b) ≡ true
+          go a b h = grind arith
+
+      room : (is_empty c.new || is_dir t.last) ≡ true → HasRoom cs c
+      room h r d f full g = go (is_empty c.new) full h
+        where
+          go : (a : Bool) → a ≡ false → (a || is_dir t.last) ≡ true → is_dir d.new ≡ true
+          go true n h = cc (n)
+          go false n h = (room_touched s cs st c q t e full at).0 h r d f full g
+
+      rooms : CanFollow cs c → (a : Bool) → is_empty c.new ≡ a → (a || is_dir t.last) ≡ true
+      rooms can true n = refl
+      rooms can false n = (room_touched s cs st c q t e n at).1 can.new_parent
+
+  pub open_above : (q : Node) → parent c.node ≡ Some q → place_of s.touched q ≡ None → is_known s.touched q ≡ true → CanFollow cs c
+  open_above q e none known = opens (room_untouched s cs st c q e (not_placed s.touched q none)) (free_full s cs st c.node q (not (is_empty c.old)) e (not_placed s.touched q none) (full_above s.touched q none known))
+
+  pub open_step : (q : Node) (r : Result Bool NoMemory) → parent c.node ≡ Some q → place_of s.touched q ≡ None → IfOk r (λ b. (b ≡ true) ↔ IsFree cs q true) → IfOk r (λ b. (b ≡ true) ↔ CanFollow cs c)
+  open_step q r e none h = IfOk-weaker r _ _ (λ b f. (λ y. opens (room_untouched s cs st c q e (not_placed s.touched q none)) (free_step s cs st c.node q (not (is_empty c.old)) e (not_placed s.touched q none) (f.0 y)), λ can. f.1 (free_back s cs st c.node q (not (is_empty c.old)) e (not_placed s.touched q none) (free_here can)))) h
+
+pub seat_is : (ts : List Touch) (q : Node) (o : Option Seat) (s : Seat) → o ≡ Some s → IsSeatOf ts q o → IsSeatOf ts q (Some s)
+seat_is ts q o s e w = subst (IsSeatOf ts q) e w
+
+-- a node that is known but not placed, as its seat tells
+pub none_placed : (o : Option Seat) (s : Seat) (ts : List Touch) (q : Node) → o ≡ Some s → s.place ≡ None → place_in o ≡ place_of ts q → place_of ts q ≡ None
+none_placed o s ts q e f is = sym is ∙ ap place_in e ∙ f
+
+pub known_seat : (o : Option Seat) (s : Seat) (ts : List Touch) (q : Node) → o ≡ Some s → is_some o ≡ is_known ts q → is_known ts q ≡ true
+known_seat o s ts q e is = sym is ∙ ap is_some e
+
+pub unknown_seat : (o : Option Seat) (ts : List Touch) (q : Node) → o ≡ None → is_some o ≡ is_known ts q → is_known ts q ≡ false
+unknown_seat o ts q e is = sym is ∙ ap is_some e
+
+pub seat_placed : (o : Option Seat) (s : Seat) (k : ℕ) (ts : List Touch) (q : Node) → o ≡ Some s → s.place ≡ Some k → place_in o ≡ place_of ts q → place_of ts q ≡ Some k
+seat_placed o s k ts q e f is = sym is ∙ ap place_in e ∙ f
 
 pub always : {P : Type 0} → P → (true ≡ true) ↔ P
 always p = (λ _. p, λ _. refl)

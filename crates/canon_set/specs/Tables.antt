@@ -1,10 +1,12 @@
--- How a sum is kept: the places of the touched nodes, and the nodes that are known to hold something after the log.
-use Rattle.std.specs.Prelude.{◌≡◌, ℕ, ◌+◌, Bool, true, false, not, ◌&&◌, ◌||◌, List, [], ◌∷◌, Option, Some, None, is_some, is_none, if◌then◌else◌}
+-- How a sum is kept: the touched nodes in a list, and for each of them and each node above one its seat.
+use Rattle.std.specs.Prelude.{◌≡◌, ◌↔◌, ℕ, ◌+◌, ◌<◌, ◌≤◌, Bool, true, false, not, ◌||◌, List, [], ◌∷◌, Option, Some, None, is_some, if◌then◌else◌}
 use Rattle.std.specs.Option.{option_map}
-use Rattle.sync_path.specs.Paths.{Node, same_path, is_under}
+use Rattle.sync_path.specs.Paths.{Node, parent, same_path, is_under}
 use Rattle.sync_command.specs.Values.{is_empty}
 use Rattle.sync_command.specs.Changes.{Change}
 use Rattle.canon_set.specs.declared.touches.Touch.{Touch}
+use Rattle.canon_set.specs.declared.seats.Seat.{Seat}
+use Rattle.canon_set.specs.Seats.{place_in, children_in, IsTally}
 use Rattle.canon_set.specs.Sums.{Sum, StandsFor}
 
 -- the touch of a node, and its place
@@ -29,23 +31,22 @@ full_by (Some t) over = not (is_empty t.last)
 abbrev pub is_full : List Touch → Node → Bool
 is_full ts p = full_by (touch_at ts p) (is_over ts p)
 
--- the places and the full nodes are kept right, and the sum is that of some log
-pub record IsKept (s : Sum) (place : Node → Option ℕ) (full : Node → Bool) : Type 0 where
-  pub places : (p : Node) → place p ≡ place_of s.touched p
-  pub fulls : (p : Node) → full p ≡ is_full s.touched p
+-- a node is known: touched, or above a touched one
+abbrev pub is_known : List Touch → Node → Bool
+is_known ts p = is_some (place_of ts p) || is_over ts p
+
+-- what a seat tells of its node
+pub record IsSeatOf (ts : List Touch) (q : Node) (seat : Option Seat) : Type 0 where
+  pub place : place_in seat ≡ place_of ts q
+  pub known : is_some seat ≡ is_known ts q
+  pub child : 0 < children_in seat → (p : Node) × (parent p ≡ Some q) × (is_full ts p ≡ true)
+  pub none : children_in seat ≡ 0 → (p : Node) → parent p ≡ Some q → is_full ts p ≡ false
+
+-- the seats are kept right, and the sum is that of some log
+pub record IsKept (s : Sum) (seat : Node → Option Seat) : Type 0 where
+  pub places : (p : Node) → place_in (seat p) ≡ place_of s.touched p
+  pub known : (p : Node) → is_some (seat p) ≡ is_known s.touched p
+  pub counts : (q : Node) → IsTally (is_full s.touched) q (children_in (seat q))
+  pub few : (q : Node) → children_in (seat q) ≤ s.count
   pub log : List Change
   pub stands : StandsFor s log
-
--- ---- full nodes above a path
-
--- the path, or one above it
-abbrev pub is_on_way : Node → Node → Bool
-is_on_way path p = same_path p path || is_under path p
-
--- the full nodes, and the untouched ones among a path and those above it
-abbrev pub raised : (Node → Option ℕ) → (Node → Bool) → Node → Node → Bool
-raised place full path p = full p || (is_none (place p) && is_on_way path p)
-
--- on the way up from a path, what is untouched above a touched or a full node is full
-abbrev pub IsClosed : (Node → Option ℕ) → (Node → Bool) → Node → Type 0
-IsClosed place full path = (q p : Node) → is_on_way path q ≡ true → (is_some (place q) || full q) ≡ true → is_under q p ≡ true → place p ≡ None → full p ≡ true

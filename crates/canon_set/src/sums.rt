@@ -1,25 +1,33 @@
 //! The sum of a log: the table of the nodes that it touches.
 
-ghost use Rattle.std.specs.Prelude.{◌≡◌, ◌↔◌, ◌<◌, ◌+◌, ◌^◌, ℕ, List, [], ◌∷◌, ◌++◌, length, slice_index_or, true, IfOk, OnOk, OnErr, IsTrue, None, Some, Err, option_copied};
-ghost use Rattle.sync_path.specs.Paths.{Node, is_under};
+ghost use Rattle.std.specs.Prelude.{◌≡◌, ◌↔◌, ◌<◌, ◌+◌, ◌^◌, ℕ, List, [], ◌∷◌, ◌++◌, length, slice_index_or, IfOk, OnOk, OnErr, IsTrue, None, Some, Err, option_copied, true, false, not, ◌&&◌, ◌||◌};
+ghost use Rattle.sync_path.specs.Paths.{Node};
 ghost use Rattle.sync_command.specs.Values.{is_dir, is_empty};
 ghost use Rattle.sync_command.specs.Changes.{Change, is_change};
 ghost use Rattle.canon_set.specs.declared.faults.AddFault.TheVariants.{Broken};
 ghost use Rattle.canon_set.specs.Logs.{IsTaken, net};
 ghost use Rattle.canon_set.specs.Sets.{canonical};
-ghost use Rattle.canon_set.specs.Following.{CanFollow, HoldsOld, HasRoom, HasNoChild, IsFree};
+ghost use Rattle.canon_set.specs.Following.{CanFollow, HasRoom, IsFree};
 ghost use Rattle.canon_set.specs.Sums.{IsSum, StandsFor};
-ghost use Rattle.canon_set.specs.Tables.{touch_at, place_of, is_full};
+ghost use Rattle.canon_set.specs.Tables.{touch_at, place_of, is_known, IsSeatOf};
 
-use crate::full::{put, settle};
+use crate::seats::{Seat, enter, give_place, recount};
 use crate::touches::{first_touch, is_dir, is_empty, net_command, renew};
 use crate::{AddFault, CanonSet, Touch};
 use std::alloc::Global;
-use std::collections::{BTreeSet, HashMap};
+use std::collections::HashMap;
 use std::marker::Model;
-use std::ops::Bound;
-use sync_command::Command;
+use sync_command::{Command, Value};
 use sync_path::{NoMemory, Path};
+
+/// Whether a touched node lets in the first command of a child: what it makes stands in a directory, and what was there
+/// stood in one all along.
+fn lets_in(above: &Touch, command: &Command) -> bool
+    ensures { result ≡ ((is_empty command.now.new || is_dir above.now.last) && (is_empty command.now.old || not above.now.left_dir)) }
+{
+    (is_empty(command.new_value()) || is_dir(&above.last))
+        && (is_empty(command.old()) || !above.left_dir)
+}
 
 /// The sum of a log that some tree takes ("Sums of logs" in `docs/MODEL.md`): how many commands it has, and the nodes
 /// that they touch, in order of first touch.
@@ -28,16 +36,12 @@ pub struct LogSum {
     alloc: Global,
     count: usize,
     touches: Vec<Touch>,
-    // the place of each touched node
-    places: HashMap<Path, usize>,
-    // the nodes that hold something after the log, as far as it tells
-    full: BTreeSet<Path>,
+    // the touched nodes, and those above them
+    seats: HashMap<Path, Seat>,
 }
 
 impl Model for LogSum {
     ghost use Rattle.std.specs.HashMap as hash;
-    ghost use Rattle.std.specs.BTreeSet as sorted;
-    ghost use Rattle.sync_path.specs.Paths.{path_cmp};
     ghost use Rattle.sync_path.specs.Order.{path_eq};
     ghost use Rattle.canon_set.specs.Sums.{Sum};
     ghost use Rattle.canon_set.specs.Tables.{IsKept};
@@ -46,7 +50,7 @@ impl Model for LogSum {
 
     ghost view = { λ s. record { count = s.count; touched = s.touches.items } };
 
-    ghost invariant = { λ s. IsKept (record { count = s.count; touched = s.touches.items }) (hash.get path_eq s.places) (sorted.contains path_cmp s.full) };
+    ghost invariant = { λ s. IsKept (record { count = s.count; touched = s.touches.items }) (hash.get path_eq s.seats) };
 }
 
 impl LogSum {
@@ -60,8 +64,7 @@ impl LogSum {
             alloc,
             count: 0,
             touches: Vec::new(alloc),
-            places: HashMap::new(alloc),
-            full: BTreeSet::new(alloc),
+            seats: HashMap::new(alloc),
         }
     }
 
@@ -89,63 +92,27 @@ impl LogSum {
         &self.touches[place]
     }
 
-    /// The place of a touched node.
-    pub(crate) fn place(&self, path: &Path) -> Option<usize>
-        ensures { result ≡ place_of self.now.touched path.now }
+    /// What the table keeps of a node; nothing of one that is neither touched nor above a touched one.
+    fn seat(&self, path: &Path) -> Option<Seat>
+        ensures { IsSeatOf self.now.touched path.now result }
     {
-        self.places.get(path).copied()
+        self.seats.get(path).copied()
     }
 
     /// The touch of a node.
     pub(crate) fn find(&self, path: &Path) -> Option<&Touch>
         ensures { option_copied result ≡ touch_at self.now.touched path.now }
     {
-        match self.place(path) {
-            Some(place) => Some(&self.touches[place]),
-            None => None,
-        }
-    }
-
-    /// Whether a node is known to hold something after the log.
-    pub(crate) fn is_full(&self, path: &Path) -> bool
-        ensures { result ≡ is_full self.now.touched path.now }
-    {
-        self.full.contains(path)
-    }
-
-    /// Whether some node under this one is known to hold something after the log: what is under a path comes right
-    /// after it in the path order. The depth tells that the path has a name.
-    pub(crate) fn has_full_under(&self, path: &Path) -> bool
-        ensures { IsTrue result ↔ ((p : Node) × (is_under p path.now ≡ true) × (is_full self.now.touched p ≡ true)) }
-    {
-        let _depth = path.depth();
-        match self
-            .full
-            .range((Bound::Excluded(path), Bound::Unbounded))
-            .next()
-        {
-            Some(next) => next.under(path),
-            None => false,
-        }
-    }
-
-    /// Whether the command's node holds its old value after the log, as far as the log tells.
-    fn holds_old(&self, command: &Command) -> bool
-        ensures { (cs : List Change) → StandsFor self.now cs → (IsTrue result ↔ HoldsOld cs command.now) }
-    {
-        match self.find(command.path()) {
-            Some(touch) => touch.last.same(command.old()),
-            None => !self.is_full(command.path()) || is_dir(command.old()),
-        }
+        let seat = self.seat(path)?;
+        let place = seat.place?;
+        Some(&self.touches[place])
     }
 
     /// Whether what the command makes stands in a directory.
     fn has_room(&self, command: &Command) -> Result<bool, NoMemory>
+        requires { is_empty command.now.new ≡ false }
         ensures { (cs : List Change) → StandsFor self.now cs → IfOk result (λ b. IsTrue b ↔ HasRoom cs command.now) }
     {
-        if is_empty(command.new_value()) {
-            return Ok(true);
-        }
         let Some(parent) = command.path().parent(self.alloc)? else {
             return Ok(true);
         };
@@ -155,45 +122,71 @@ impl LogSum {
         }
     }
 
-    /// Whether no child is left where the command makes no directory.
-    fn has_no_child(&self, command: &Command) -> bool
-        ensures { (cs : List Change) → StandsFor self.now cs → (IsTrue result ↔ HasNoChild cs command.now) }
-    {
-        is_dir(command.new_value()) || !self.has_full_under(command.path())
-    }
-
-    /// Whether the log never left the parent of an untouched node above the path, nor the path's own parent where
-    /// the path is full: the nearest touched node above decides.
-    fn is_free(&self, path: &Path, full: bool) -> Result<bool, NoMemory>
-        ensures { (cs : List Change) → StandsFor self.now cs → IfOk result (λ b. IsTrue b ↔ IsFree cs path.now full) }
+    /// Whether the log never left the parent of an untouched node above the path, nor the path's own parent: the
+    /// nearest touched node above decides.
+    fn is_free(&self, path: &Path) -> Result<bool, NoMemory>
+        ensures { (cs : List Change) → StandsFor self.now cs → IfOk result (λ b. IsTrue b ↔ IsFree cs path.now true) }
     {
         let Some(parent) = path.parent(self.alloc)? else {
             return Ok(true);
         };
-        match self.find(&parent) {
-            Some(touch) => Ok(!full || !touch.left_dir),
-            None => {
-                if self.is_full(&parent) {
-                    Ok(true)
-                } else {
-                    self.is_free(&parent, true)
-                }
-            }
+        let Some(seat) = self.seat(&parent) else {
+            return self.is_free(&parent);
+        };
+        match seat.place {
+            Some(place) => Ok(!self.touches[place].left_dir),
+            None => Ok(true),
         }
     }
 
-    /// Whether the command can follow the log.
-    fn can_follow(&self, command: &Command) -> Result<bool, NoMemory>
+    /// Whether a command can be the first at a node that the table does not know.
+    fn is_open(&self, command: &Command) -> Result<bool, NoMemory>
+        requires { is_known self.now.touched command.now.node ≡ false }
         ensures { (cs : List Change) → StandsFor self.now cs → IfOk result (λ b. IsTrue b ↔ CanFollow cs command.now) }
     {
-        if !self.holds_old(command) || !self.has_no_child(command) || !self.has_room(command)? {
+        let Some(parent) = command.path().parent(self.alloc)? else {
+            return Ok(true);
+        };
+        let Some(seat) = self.seat(&parent) else {
+            return self.is_free(&parent);
+        };
+        match seat.place {
+            Some(place) => Ok(lets_in(&self.touches[place], command)),
+            None => Ok(true),
+        }
+    }
+
+    /// Whether a command of a touched node can follow the log: the node holds the old value; what is made of nothing
+    /// stands in a directory, and no child is left where a directory goes.
+    fn can_go_on(&self, place: usize, children: usize, command: &Command) -> Result<bool, NoMemory>
+        requires seat { IsSeatOf self.now.touched command.now.node (Some (record { place = Some place; children = children })) }
+        requires change { IsTrue (is_change command.now) }
+        ensures { (cs : List Change) → StandsFor self.now cs → IfOk result (λ b. IsTrue b ↔ CanFollow cs command.now) }
+    {
+        if !self.touches[place].last.same(command.old()) {
             return Ok(false);
         }
-        let path = command.path();
-        if self.place(path).is_some() || self.is_full(path) {
-            return Ok(true);
+        match command.old() {
+            Value::Empty => self.has_room(command),
+            Value::Dir => Ok(children == 0),
+            Value::File(_) => Ok(true),
         }
-        self.is_free(path, !is_empty(command.old()))
+    }
+
+    /// Whether the command can follow the log; the seat is that of its node. An untouched node above touched ones is a
+    /// directory.
+    fn can_follow(&self, command: &Command, seat: Option<Seat>) -> Result<bool, NoMemory>
+        requires seat { IsSeatOf self.now.touched command.now.node seat }
+        requires change { IsTrue (is_change command.now) }
+        ensures { (cs : List Change) → StandsFor self.now cs → IfOk result (λ b. IsTrue b ↔ CanFollow cs command.now) }
+    {
+        let Some(seat) = seat else {
+            return self.is_open(command);
+        };
+        match seat.place {
+            Some(place) => self.can_go_on(place, seat.children, command),
+            None => Ok(is_dir(command.old()) && seat.children == 0),
+        }
     }
 
     /// Adds a command to the log's end ("Sums of logs" in `docs/MODEL.md`). `Broken` comes exactly where some tree takes
@@ -208,14 +201,17 @@ impl LogSum {
         if self.count == usize::MAX {
             return Err(AddFault::Memory);
         }
-        if !self.can_follow(&command)? {
+        let seat = self.seat(command.path());
+        if !self.can_follow(&command, seat)? {
             return Err(AddFault::Broken);
         }
-        if let Some(place) = self.place(command.path()) {
-            self.touch_again(place, &command)?;
-            return Ok(());
+        match seat {
+            None => self.touch_new(command)?,
+            Some(Seat { place: None, .. }) => self.touch_above(command)?,
+            Some(Seat {
+                place: Some(place), ..
+            }) => self.touch_again(place, command)?,
         }
-        self.touch_first(&command)?;
         Ok(())
     }
 
@@ -228,54 +224,98 @@ impl LogSum {
         let mut commands = Vec::new(alloc);
         'touches: for touch in touches {
             if !touch.first.same(&touch.last) {
-                commands.push(net_command(alloc, touch)?)?;
+                commands.push(net_command(touch.copy(alloc)?))?;
+            }
+        }
+        CanonSet::from_parts(alloc, commands)
+    }
+
+    /// The net set of the log, as `net` gives it, made of the sum's own paths and values.
+    pub fn into_net(self) -> Result<CanonSet, NoMemory>
+        ensures { (cs : List Change) → StandsFor self cs → IfOk result (λ s. s ≡ canonical (net cs)) }
+    {
+        let LogSum {
+            alloc,
+            touches,
+            seats,
+            ..
+        } = self;
+        // the table need not stay while the set is made
+        drop(seats);
+        let mut commands = Vec::with_capacity(alloc, touches.len())?;
+        'touches: for touch in touches {
+            if !touch.first.same(&touch.last) {
+                commands.push(net_command(touch))?;
             }
         }
         CanonSet::from_parts(alloc, commands)
     }
 
     /// Adds a command of a touched node that can follow the log.
-    fn touch_again(&mut self, place: usize, command: &Command) -> Result<(), NoMemory>
-        requires place { place_of self.old.touched command.now.node ≡ Some place }
+    fn touch_again(&mut self, place: usize, command: Command) -> Result<(), NoMemory>
+        requires place { place_of self.old.touched command.node ≡ Some place }
         requires room { self.old.count + 1 < 2 ^ 64 }
-        requires change { IsTrue (is_change command.now) }
-        requires follows { (cs : List Change) → StandsFor self.old cs → CanFollow cs command.now }
-        ensures ok { OnOk result ((cs : List Change) → StandsFor self.old cs → StandsFor self.new (cs ++ command.now ∷ [])) }
+        requires change { IsTrue (is_change command) }
+        requires follows { (cs : List Change) → StandsFor self.old cs → CanFollow cs command }
+        ensures ok { OnOk result ((cs : List Change) → StandsFor self.old cs → StandsFor self.new (cs ++ command ∷ [])) }
         ensures err { OnErr result (self.new ≡ self.old) }
     {
-        let last = command.new_value().copy(self.alloc)?;
-        put(&mut self.full, self.alloc, command.path(), !is_empty(&last))?;
+        let was_full = !is_empty(command.old());
+        let is_full = !is_empty(command.new_value());
+        recount(
+            &mut self.seats,
+            self.alloc,
+            command.path(),
+            was_full,
+            is_full,
+        )?;
+        let (_, _, last) = command.into_parts();
         renew(&mut self.touches[place], last);
         self.count += 1;
         Ok(())
     }
 
-    /// Adds a command of an untouched node that can follow the log.
-    fn touch_first(&mut self, command: &Command) -> Result<(), NoMemory>
-        requires place { place_of self.old.touched command.now.node ≡ None }
+    /// Adds the first command of an untouched node above touched ones that can follow the log: what was a directory.
+    fn touch_above(&mut self, command: Command) -> Result<(), NoMemory>
+        requires place { place_of self.old.touched command.node ≡ None }
+        requires known { is_known self.old.touched command.node ≡ true }
         requires room { self.old.count + 1 < 2 ^ 64 }
-        requires change { IsTrue (is_change command.now) }
-        requires follows { (cs : List Change) → StandsFor self.old cs → CanFollow cs command.now }
-        ensures ok { OnOk result ((cs : List Change) → StandsFor self.old cs → StandsFor self.new (cs ++ command.now ∷ [])) }
+        requires change { IsTrue (is_change command) }
+        requires follows { (cs : List Change) → StandsFor self.old cs → CanFollow cs command }
+        ensures ok { OnOk result ((cs : List Change) → StandsFor self.old cs → StandsFor self.new (cs ++ command ∷ [])) }
         ensures err { OnErr result (self.new ≡ self.old) }
     {
-        let touch = first_touch(self.alloc, command)?;
-        let key = command.path().copy(self.alloc)?;
         self.touches.reserve(1)?;
-        self.places.reserve(1)?;
-        settle(
-            &mut self.full,
-            &self.places,
-            self.alloc,
-            command.path(),
-            !is_empty(&touch.last),
-        )?;
-        let place = self.touches.len();
-        match self.places.insert(key, place) {
-            Ok(_) => {}
+        let is_full = !is_empty(command.new_value());
+        recount(&mut self.seats, self.alloc, command.path(), true, is_full)?;
+        give_place(&mut self.seats, command.path(), self.touches.len());
+        match self.touches.push(first_touch(command)) {
+            Ok(()) => {}
             Err(_) => unreachable!(),
         }
-        match self.touches.push(touch) {
+        self.count += 1;
+        Ok(())
+    }
+
+    /// Adds the first command of a node that the table does not know and that can follow the log.
+    fn touch_new(&mut self, command: Command) -> Result<(), NoMemory>
+        requires unknown { is_known self.old.touched command.node ≡ false }
+        requires room { self.old.count + 1 < 2 ^ 64 }
+        requires change { IsTrue (is_change command) }
+        requires follows { (cs : List Change) → StandsFor self.old cs → CanFollow cs command }
+        ensures ok { OnOk result ((cs : List Change) → StandsFor self.old cs → StandsFor self.new (cs ++ command ∷ [])) }
+        ensures err { OnErr result (self.new ≡ self.old) }
+    {
+        let path = command.path().copy(self.alloc)?;
+        self.touches.reserve(1)?;
+        self.seats.reserve(path.depth())?;
+        let seat = Seat {
+            place: Some(self.touches.len()),
+            children: 0,
+        };
+        let is_full = !is_empty(command.new_value());
+        enter(&mut self.seats, self.alloc, path, seat, is_full)?;
+        match self.touches.push(first_touch(command)) {
             Ok(()) => {}
             Err(_) => unreachable!(),
         }

@@ -22,32 +22,44 @@ pub struct Touch {
     pub left_dir: bool,
 }
 
+impl Touch {
+    /// An equal touch, which shares this one's file contents.
+    pub(crate) fn copy(&self, alloc: Global) -> Result<Touch, NoMemory>
+        ensures { IfOk result (λ t. t ≡ self.now) }
+    {
+        Ok(Touch {
+            path: self.path.copy(alloc)?,
+            first: self.first.copy(alloc)?,
+            last: self.last.copy(alloc)?,
+            left_dir: self.left_dir,
+        })
+    }
+}
+
 /// The touch that a node's first command makes.
-pub(crate) fn first_touch(alloc: Global, command: &Command) -> Result<Touch, NoMemory>
-    ensures { IfOk result (λ t. t ≡ first_touch_of command.now) }
+pub(crate) fn first_touch(command: Command) -> Touch
+    ensures { result ≡ first_touch_of command }
 {
-    let path = command.path().copy(alloc)?;
-    let first = command.old().copy(alloc)?;
-    let last = command.new_value().copy(alloc)?;
+    let (path, first, last) = command.into_parts();
     let left_dir = !is_dir(&first) | !is_dir(&last);
-    Ok(Touch {
+    Touch {
         path,
         first,
         last,
         left_dir,
-    })
+    }
 }
 
 /// The command from the node's first value to its last, which have to differ.
-pub(crate) fn net_command(alloc: Global, touch: &Touch) -> Result<Command, NoMemory>
-    requires { IsTrue (is_change (change_of touch.now)) }
-    ensures { IfOk result (λ c. c ≡ change_of touch.now) }
+pub(crate) fn net_command(touch: Touch) -> Command
+    requires { IsTrue (is_change (change_of touch)) }
+    ensures { result ≡ change_of touch }
 {
-    let path = touch.path.copy(alloc)?;
-    let first = touch.first.copy(alloc)?;
-    let last = touch.last.copy(alloc)?;
+    let Touch {
+        path, first, last, ..
+    } = touch;
     match Command::new(path, first, last) {
-        Ok(command) => Ok(command),
+        Ok(command) => command,
         Err(_) => unreachable!(),
     }
 }

@@ -149,6 +149,21 @@ impl Command {
         })
     }
 
+    /// The node, the old value and the new one. Takes no memory.
+    pub fn into_parts(self) -> (Path, Value, Value)
+        ensures path { result.0 ≡ self.node }
+        ensures old { result.1 ≡ self.old }
+        ensures new_value { result.2 ≡ self.new }
+        ensures differ { result.1 ≢ result.2 }
+    {
+        let Command {
+            path,
+            old,
+            new_value,
+        } = self;
+        (path, old, new_value)
+    }
+
     /// Appends the command's text `PATH OLD NEW`, which is its line in a log without the line feed.
     /// After want of memory `out` begins with what it held.
     #[tactic(auto, using(sync_path::proofs::Texts::kept_on, sync_path::proofs::Texts::kept_more))]

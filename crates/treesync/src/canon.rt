@@ -6,7 +6,7 @@ ghost use Rattle.treesync.specs.Canon.{IsCanon, IsNet, net_refusal};
 
 use crate::Refusal;
 use crate::input::log_file;
-use canon_set::{CanonFault, CanonSet};
+use canon_set::{CanonFault, CanonSet, canon_owned};
 use log_text::print_log;
 use std::alloc::Global;
 use sync_command::Command;
@@ -24,10 +24,10 @@ fn refusal_of(fault: CanonFault) -> Refusal
 }
 
 /// The text of the log's net set.
-fn net_text(alloc: Global, commands: &[Command]) -> Result<Vec<u8>, Refusal>
-    ensures { IsJudged (λ text. text.items) (IsNet commands.now) result }
+fn net_text(alloc: Global, commands: Vec<Command>) -> Result<Vec<u8>, Refusal>
+    ensures { IsJudged (λ text. text.items) (IsNet commands.items) result }
 {
-    let set = match canon_set::canon(alloc, commands) {
+    let set = match canon_owned(alloc, commands) {
         Ok(set) => set,
         Err(fault) => return Err(refusal_of(fault)),
     };
@@ -44,7 +44,7 @@ pub fn canon<F: Files>(alloc: Global, log: &str, files: &mut F) -> Result<Vec<u8
     ensures { Answers (λ text. text.items) (IsCanon log.now) (F.told files.old) (F.told files.new) (F.faults files.old) (F.faults files.new) result }
 {
     match log_file(alloc, 1, log, files) {
-        Ok(commands) => net_text(alloc, &commands),
+        Ok(commands) => net_text(alloc, commands),
         Err(refusal) => Err(refusal),
     }
 }

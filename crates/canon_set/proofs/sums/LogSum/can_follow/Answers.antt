@@ -1,16 +1,14 @@
-use Rattle.std.proofs.Common.{not, ap, ◌∙◌}
-use Rattle.sync_command.specs.Values.{is_empty}
-use Rattle.canon_set.proofs.Checks.{follows_known, known_place, unknown_place, known_by_full, told_follows, always}
-use Rattle.canon_set.proofs.sums.LogSum.can_follow.Goals.{then-is_some-via-then-is_some, then-is_some-via-else-is_some+then-is_full}
+use Rattle.std.proofs.Common.{◌≡◌, true, false, sym, ap, ◌∙◌, Some}
+use Rattle.sync_command.specs.Values.{is_dir}
+use Rattle.canon_set.specs.Tables.{IsSeatOf}
+use Rattle.canon_set.proofs.Checks.{above_dirs, above_wrong, seat_is, none_placed, known_seat, differ}
 use Rattle.canon_set.proofs.sums.LogSum.can_follow.Goals as goal
 
-pub returns-then-is_some : goal.returns-then-is_some
-returns-then-is_some c cs st = always (follows_known _ cs st _ ((c.holds_old.ensures cs st).0 c.if-not-holds_old.false) ((c.has_no_child.ensures cs st).0 c.if-not-has_no_child.false) ((c.in_ok-has_room.ensures cs st).0 c.if-not-branch.false)
-    (elim c.then-is_some.branch [
-      | then-is_some-via-then-is_some w ↦ known_place _ cs st c.args.command.now _ c.path-path.ensures _ _ c.place.ensures c.is_some.ensures w.if-is_some.true
-      | then-is_some-via-else-is_some+then-is_full w ↦ known_by_full _ cs st c.args.command.now _ c.path-path.ensures _ w.is_full.ensures w.if-is_full.true
-    ]))
+pub returns-then-is_dir : goal.returns-then-is_dir
+returns-then-is_dir c cs st = let w : IsSeatOf c.args.self.now.touched c.args.command.now.node (Some c.in-Some.seat) = seat_is _ _ c.args.seat c.in-Some.seat c.in-Some.is c.requires.seat in
+    above_dirs _ cs st c.args.command.now (differ c.args.command.now c.requires.change) (none_placed c.args.seat c.in-Some.seat _ _ c.in-Some.is c.in-None.is c.requires.seat.place) (known_seat c.args.seat c.in-Some.seat _ _ c.in-Some.is c.requires.seat.known)
+    (ap is_dir (sym c.old.ensures) ∙ sym c.is_dir.ensures ∙ c.if-is_dir.true) c.in-Some.seat.children w.child w.none
 
-pub returns : goal.returns
-returns c cs st = told_follows _ cs st c.args.command.now _ c.path-path.ensures _ c.is_free.result ((c.holds_old.ensures cs st).0 c.if-not-holds_old.false) ((c.has_no_child.ensures cs st).0 c.if-not-has_no_child.false) ((c.in_ok-has_room.ensures cs st).0 c.if-not-branch.false)
-    (unknown_place _ cs st c.args.command.now _ c.path-path.ensures _ _ c.place.ensures c.is_some.ensures c.if-is_some.false) (ap not (c.is_empty.ensures ∙ ap is_empty c.old.ensures)) (c.is_free.ensures cs st)
+pub returns-else-is_dir : goal.returns-else-is_dir
+returns-else-is_dir c cs st = (λ e. let f : c.is_dir.result ≡ false = c.if-is_dir.false in cc (e, f), λ can. absurd (above_wrong _ cs st c.args.command.now (differ c.args.command.now c.requires.change) (none_placed c.args.seat c.in-Some.seat _ _ c.in-Some.is c.in-None.is c.requires.seat.place)
+    (known_seat c.args.seat c.in-Some.seat _ _ c.in-Some.is c.requires.seat.known) (ap is_dir (sym c.old.ensures) ∙ sym c.is_dir.ensures ∙ c.if-is_dir.false) can))
