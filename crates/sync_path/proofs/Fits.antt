@@ -1,6 +1,6 @@
 -- The quick test of names, and the marks between them.
 use Rattle.std.proofs.Common.{◌≡◌, ◌&&◌, ℕ, zero, suc, ◌+◌, ◌<◌, ◌≤◌, true, false, not, IsTrue, List, [], ◌∷◌, ◌++◌, length, take, drop, get_or, count_by, sym, refl, ap, ◌∙◌, subst, ⊎_elim, arith, cond, nat_eq, nat_lt, append_assoc, length-append, None}
-use Rattle.std.specs.List.{starts_with, join_with_byte, AllByRecursion}
+use Rattle.std.specs.List.{starts_with, join_with_byte, AllByRecursion, list_any}
 use Rattle.std.proofs.Common.{eqb}
 use Rattle.std.specs.Str.{is_utf8, IsUtf8, IsAscii, IsCharBoundary}
 use Rattle.std.proofs.lemmas.Bool.{cases_Bool}
@@ -33,6 +33,15 @@ not_counted mark x xs h =
     ⊎_elim
     (λ (t : nat_eq x mark ≡ true). let k = rw t at e in absurd (omega (arith, k)))
     (λ (f : nat_eq x mark ≡ false). let k = rw f at e in (f, omega (arith, k)))
+    (cases_Bool (nat_eq x mark))
+
+-- what is found nowhere is counted nowhere
+pub none_counted : (mark : ℕ) (xs : List ℕ) → list_any (λ b. nat_eq b mark) xs ≡ false → count_by (λ b. nat_eq b mark) xs ≡ 0
+none_counted mark [] h = refl
+none_counted mark (x ∷ xs) h =
+    ⊎_elim
+    (λ (t : nat_eq x mark ≡ true). absurd (cc (rw t at h)))
+    (λ (f : nat_eq x mark ≡ false). let rest = none_counted mark xs (rw f at h) in count-cons mark x xs ∙ rw (f, rest) refl)
     (cases_Bool (nat_eq x mark))
 
 no_bars : (name : List ℕ) → count 0 name ≡ 0 → count 47 name ≡ 0 → has_bar name ≡ false
@@ -112,8 +121,9 @@ mark_step xs now i h e =
     ∙ sym (ap (λ r. r ++ drop (i + 1) xs) (ap marked (take_more xs i 0 h) ∙ map-append f (take i xs) (x ∷ []))
     ∙ append_assoc (marked (take i xs)) (f x ∷ []) (drop (i + 1) xs))
 
-pub none_found : (xs : List ℕ) (n : ℕ) → n ≡ count_by (λ b. nat_eq b 47) xs → n < 64 → first_fault (parts 47 xs) ≡ None → None ≡ fault_of (parts 47 xs)
-none_found xs n e h none = not_deep xs n None e h (sym none)
+-- at most 64 names, none of them at fault
+pub within_depth : (ns : Node) → length ns ≤ 64 → first_fault ns ≡ None → None ≡ fault_of ns
+within_depth ns few none = let f : nat_lt 64 (length ns) ≡ false = grind (arith, nat_tests) in rw f (sym none)
 
 -- ---- a buffer is text
 

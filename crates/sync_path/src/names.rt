@@ -67,15 +67,15 @@ fn begins_well(name: &[u8]) -> bool
     name.len() > 0 && (name[0] != b'.' || !dots(name) && !name.starts_with(b".sync-"))
 }
 
-/// A quick test: where it says yes, there is a name in each place between the bars.
+/// A quick test: where it says yes, there are at most 64 names, one in each place between the bars.
 fn all_fit(bytes: &[u8]) -> bool
-    ensures { IsTrue result → first_fault (parts 47 bytes.now) ≡ None }
+    ensures { IsTrue result → None ≡ fault_of (parts 47 bytes.now) }
 {
-    if count_of(bytes, 0) > 0 || !is_text(bytes) {
+    if bytes.contains(&0) || !is_text(bytes) {
         return false;
     }
     let mut rest = bytes;
-    'names: loop {
+    'names: for place in 0..64usize {
         let (name, more) = cut_at(rest, b'/');
         if name.len() > 255 || !begins_well(name) {
             return false;
@@ -85,6 +85,7 @@ fn all_fit(bytes: &[u8]) -> bool
             None => return true,
         }
     }
+    false
 }
 
 /// Why the bytes between the bars are no path: the first reason.
@@ -108,11 +109,11 @@ pub fn first_fault_in(bytes: &[u8]) -> Option<PathFault>
 pub fn fault_in(bytes: &[u8]) -> Option<PathFault>
     ensures { result ≡ fault_of (parts 47 bytes.now) }
 {
-    if count_of(bytes, b'/') >= 64 {
-        return Some(PathFault::TooDeep);
-    }
     if all_fit(bytes) {
         return None;
+    }
+    if count_of(bytes, b'/') >= 64 {
+        return Some(PathFault::TooDeep);
     }
     first_fault_in(bytes)
 }
