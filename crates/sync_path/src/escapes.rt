@@ -1,13 +1,14 @@
 //! The escapes of paths and of file contents.
 
-ghost use Rattle.std.specs.Prelude.{◌≡◌, ◌≢◌, ◌<◌, ◌++◌, ℕ, List, true, length, take, position, MatchOption, OnOk, OnErr};
+ghost use Rattle.std.specs.Prelude.{◌≡◌, ◌≢◌, ◌<◌, ◌++◌, ℕ, List, true, false, length, take, position, MatchOption, OnOk, OnErr};
+ghost use Rattle.std.specs.List.{list_any};
 ghost use Rattle.std.specs.Fmt.{digit_glyph};
 ghost use Rattle.percent_encoding.specs.Iter.{encoded_text};
 ghost use Rattle.percent_encoding.specs.Percent.{percent_encode_byte};
-ghost use Rattle.sync_path.specs.Escapes.{needs_escape, escaped, unescaped_of};
+ghost use Rattle.sync_path.specs.Escapes.{needs_escape, is_hidden, escaped, unescaped_of};
 ghost use Rattle.sync_path.specs.Reading.{Gives};
 
-use crate::bytes::count_of;
+use crate::bytes::{count_of, far_mark};
 use crate::{NoMemory, PathFault};
 use percent_encoding::{AsciiSet, CONTROLS, PercentEncode, ascii_set, percent_encode};
 use std::alloc::Global;
@@ -41,11 +42,25 @@ fn is_special(byte: u8) -> bool
     byte <= 32 || byte == b'%' || byte >= 127
 }
 
-/// Where the first byte stands that is escaped.
+/// Whether a byte stands in the text that stands in no escaped text.
+fn holds_hidden(text: &[u8]) -> bool
+    ensures { result ≡ list_any is_hidden text.now }
+{
+    let mut found = false;
+    for byte in text {
+        if *byte <= 32 || *byte >= 127 {
+            found = true;
+        }
+    }
+    found
+}
+
+/// Where the first byte stands that is escaped; it can only be a `%`.
 fn first_special(text: &[u8]) -> Option<usize>
+    requires { list_any is_hidden text.now ≡ false }
     ensures { result ≡ position needs_escape text.now }
 {
-    text.iter().position(|b| is_special(*b))
+    far_mark(text, b'%')
 }
 
 /// The value of an upper-case hexadecimal digit.
@@ -85,6 +100,9 @@ fn first_escape(text: &[u8]) -> Option<(u8, &[u8])>
 pub fn unescape(alloc: Global, text: &[u8]) -> Result<Vec<u8>, PathFault>
     ensures { Gives (λ bytes. bytes.items) result (unescaped_of text.now) }
 {
+    if holds_hidden(text) {
+        return Err(PathFault::BadEscape);
+    }
     let room = text.len().saturating_sub(2 * count_of(text, b'%'));
     let mut bytes = Vec::with_capacity(alloc, room)?;
     let mut rest = text;
