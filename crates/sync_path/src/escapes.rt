@@ -10,7 +10,9 @@ ghost use Rattle.sync_path.specs.Reading.{Gives};
 
 use crate::bytes::{count_of, far_mark};
 use crate::{NoMemory, PathFault};
-use percent_encoding::{AsciiSet, CONTROLS, PercentEncode, ascii_set, percent_encode};
+use percent_encoding::{
+    AsciiSet, CONTROLS, PercentEncode, ascii_set, percent_encode, percent_encode_byte,
+};
 use std::alloc::Global;
 
 /// The ASCII bytes that are escaped; every byte from 0x80 on is escaped too.
@@ -29,10 +31,16 @@ pub fn escape_to(bytes: &[u8], out: &mut Vec<u8>) -> Result<(), NoMemory>
     ensures ok { OnOk result (out.new.items ≡ out.old.items ++ escaped bytes.now) }
     ensures err { OnErr result (take (length out.old.items) out.new.items ≡ out.old.items) }
 {
-    for piece in escaped_pieces(bytes) {
-        out.extend_from_slice(piece.as_bytes())?;
+    let mut rest = bytes;
+    'runs: loop {
+        let Some(at) = first_special(rest) else {
+            out.extend_from_slice(rest)?;
+            return Ok(());
+        };
+        out.extend_from_slice(&rest[..at])?;
+        out.extend_from_slice(percent_encode_byte(rest[at]).as_bytes())?;
+        rest = &rest[at + 1..];
     }
-    Ok(())
 }
 
 /// Whether the byte is escaped.
@@ -40,6 +48,13 @@ fn is_special(byte: u8) -> bool
     ensures { result ≡ needs_escape byte }
 {
     byte <= 32 || byte == b'%' || byte >= 127
+}
+
+/// Where the first byte stands that is escaped.
+fn first_special(bytes: &[u8]) -> Option<usize>
+    ensures { result ≡ position needs_escape bytes.now }
+{
+    bytes.iter().position(|b| is_special(*b))
 }
 
 /// Whether a byte stands in the text that stands in no escaped text.
@@ -55,8 +70,8 @@ fn holds_hidden(text: &[u8]) -> bool
     found
 }
 
-/// Where the first byte stands that is escaped; it can only be a `%`.
-fn first_special(text: &[u8]) -> Option<usize>
+/// Where the first byte stands that is escaped, in a text where it can only be a `%`.
+fn first_sign(text: &[u8]) -> Option<usize>
     requires { list_any is_hidden text.now ≡ false }
     ensures { result ≡ position needs_escape text.now }
 {
@@ -107,7 +122,7 @@ pub fn unescape(alloc: Global, text: &[u8]) -> Result<Vec<u8>, PathFault>
     let mut bytes = Vec::with_capacity(alloc, room)?;
     let mut rest = text;
     'runs: loop {
-        let Some(at) = first_special(rest) else {
+        let Some(at) = first_sign(rest) else {
             bytes.extend_from_slice(rest)?;
             return Ok(bytes);
         };
