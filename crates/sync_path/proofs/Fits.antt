@@ -5,11 +5,9 @@ use Rattle.std.proofs.Common.{eqb}
 use Rattle.std.specs.Str.{is_utf8, IsUtf8, IsAscii, IsCharBoundary}
 use Rattle.std.proofs.lemmas.Bool.{cases_Bool}
 use Rattle.std.proofs.lemmas.Bool.Decides.{nat_tests}
-use Rattle.std.proofs.lemmas.List.{take_more, map-append, length-map, set_at, length-take-le, append-nil}
 use Rattle.std.proofs.lemmas.List.Sums.{sum_by-append, sum_by-cons}
 use Rattle.std.proofs.lemmas.Str.{IsUtf8-nil, IsUtf8-append, IsUtf8-from_ascii, IsUtf8-from_is_utf8, IsUtf8-take, IsUtf8-drop, IsCharBoundary-after_ascii, is_utf8-from_IsUtf8}
 use Rattle.std.proofs.Math.Seq.{take-append_seam, drop-append_seam, get_or-append_seam, take-length, drop-length}
-use Rattle.std.proofs.Math.ListN.{set}
 use Rattle.sync_path.specs.Names.{is_name, is_short, is_begun, is_dots, own_front, has_bar}
 use Rattle.sync_path.specs.Paths.{Node, parts, names_in, IsPath}
 use Rattle.sync_path.specs.Reading.{first_fault, fault_of}
@@ -106,20 +104,6 @@ pub last_fits : (rest name bytes : List ℕ) → IsClean rest bytes → rest ≡
 last_fits rest name bytes h e p short begun =
     let named = fits_name name short begun (no_bars name (sym (ap (count 0) e) ∙ h.clear) (last_clear rest name e p)) (is_utf8-from_IsUtf8 name (subst IsUtf8 e h.text)) in
     sym h.same ∙ ap first_fault p ∙ rw named refl
-
--- ---- marks
-
-pub mark_step : (xs now : List ℕ) (i : ℕ) → i < length xs → now ≡ marked (take i xs) ++ drop i xs
-    → set now i (cond (nat_eq (get_or now i 0) 47) 0 (get_or now i 0)) ≡ marked (take (i + 1) xs) ++ drop (i + 1) xs
-mark_step xs now i h e =
-    let f : ℕ → ℕ = λ b. cond (nat_eq b 47) 0 b in
-    let x : ℕ = get_or xs i 0 in
-    let l : length (marked (take i xs)) ≡ i = length-map (take i xs) f ∙ length-take-le i xs (omega arith) in
-    let d : now ≡ marked (take i xs) ++ x ∷ drop (i + 1) xs = e ∙ ap (λ r. marked (take i xs) ++ r) (drop_at xs i h) in
-    let at : get_or now i 0 ≡ x = ap (λ r. get_or r i 0) d ∙ subst (λ k. get_or (marked (take i xs) ++ x ∷ drop (i + 1) xs) k 0 ≡ x) l (get_or-append_seam (marked (take i xs)) x (drop (i + 1) xs) 0) in
-    (λ j. set (d j) i (f (at j))) ∙ set_at (marked (take i xs)) x (drop (i + 1) xs) (f x) i l
-    ∙ sym (ap (λ r. r ++ drop (i + 1) xs) (ap marked (take_more xs i 0 h) ∙ map-append f (take i xs) (x ∷ []))
-    ∙ append_assoc (marked (take i xs)) (f x ∷ []) (drop (i + 1) xs))
 
 -- at most 64 names, none of them at fault
 pub within_depth : (ns : Node) → length ns ≤ 64 → first_fault ns ≡ None → None ≡ fault_of ns
