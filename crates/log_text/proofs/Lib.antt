@@ -6,4 +6,3 @@ pub mod FrameLaws
 pub mod ValueLaws
 pub mod LogLaws
 pub mod RowLaws
-pub mod LineFeeds

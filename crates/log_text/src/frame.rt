@@ -16,7 +16,7 @@ use crate::faults::{LineFault, LogFault, TextFault, TextKind};
 use itoa::Buffer;
 use std::alloc::Global;
 use sync_command::{Value, ValueFault};
-use sync_path::bytes::cut_at;
+use sync_path::bytes::cut_far;
 use sync_path::{NoMemory, Path, PathFault};
 
 /// The fields of a line, as far as the forms tell them apart.
@@ -62,15 +62,15 @@ fn two_fields<'a>(first: &'a [u8], second: &'a [u8]) -> Fields<'a>
 pub fn fields_of(line: &[u8]) -> Fields<'_>
     ensures { AreFields result (parts 32 line.now) }
 {
-    let (first, more) = cut_at(line, b' ');
+    let (first, more) = cut_far(line, b' ');
     let Some(rest) = more else {
         return Fields::Other;
     };
-    let (second, more) = cut_at(rest, b' ');
+    let (second, more) = cut_far(rest, b' ');
     let Some(rest) = more else {
         return two_fields(first, second);
     };
-    let (third, more) = cut_at(rest, b' ');
+    let (third, more) = cut_far(rest, b' ');
     match more {
         None => Fields::Three(first, second, third),
         Some(_) => Fields::Other,

@@ -3,7 +3,6 @@
 //! `docs/FORMATS.md` tells the forms and the order of the faults; `specs/Frame.antt` defines what they share.
 #![tactic(auto)]
 
-mod cuts;
 mod faults;
 pub mod frame;
 pub mod laws;

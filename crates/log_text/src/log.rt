@@ -10,7 +10,6 @@ ghost use Rattle.log_text.specs.Frame.{body_of, ended};
 ghost use Rattle.log_text.specs.Logs.{log_of, log_text, judge_change, change_of, change_from};
 ghost use Rattle.log_text.specs.Reading.{GivesText, GivesLine};
 
-use crate::cuts::cut_line;
 use crate::faults::{LineFault, LogFault, TextKind};
 use crate::frame::{
     Fields, end_fault, fault_behind, fields_of, header_fault, line_fault, print_end, read_path,
@@ -19,6 +18,7 @@ use crate::frame::{
 use std::alloc::Global;
 use sync_command::Command;
 use sync_path::NoMemory;
+use sync_path::bytes::cut_far;
 
 /// Reads the text of a log of at most 2^20 commands.
 ///
@@ -30,7 +30,7 @@ use sync_path::NoMemory;
 pub fn read_log(alloc: Global, text: &[u8]) -> Result<Vec<Command>, LogFault>
     ensures { GivesText (λ v. v.items) result (log_of (parts 10 text.now)) }
 {
-    let (first, more) = cut_line(text);
+    let (first, more) = cut_far(text, b'\n');
     let Some(rest) = more else {
         return Err(header_fault());
     };
@@ -48,7 +48,7 @@ fn read_commands(alloc: Global, text: &[u8]) -> Result<Vec<Command>, LogFault>
     let mut commands = Vec::new(alloc);
     let mut rest = text;
     'lines: loop {
-        let (line, more) = cut_line(rest);
+        let (line, more) = cut_far(rest, b'\n');
         let Some(after) = more else {
             return Err(LogFault::Text(fault_behind(number_of(&commands), TextKind::End)));
         };

@@ -10,7 +10,6 @@ ghost use Rattle.log_text.specs.Frame.{body_of, ended};
 ghost use Rattle.log_text.specs.Snapshots.{snapshot_of, snapshot_text, row_of, row_from, row_fault, row_text};
 ghost use Rattle.log_text.specs.Reading.{GivesText, GivesLine, IsHome};
 
-use crate::cuts::cut_line;
 use crate::faults::{LineFault, LogFault, TextKind};
 use crate::frame::{
     Fields, end_fault, fault_behind, fields_of, header_fault, line_fault, print_end, read_path,
@@ -18,6 +17,7 @@ use crate::frame::{
 };
 use std::alloc::Global;
 use sync_command::{Row, Value};
+use sync_path::bytes::cut_far;
 use sync_path::{NoMemory, Path};
 
 /// Reads the text of a snapshot of at most 2^20 rows, which are a tree in path order.
@@ -31,7 +31,7 @@ pub fn read_snapshot(alloc: Global, text: &[u8]) -> Result<Vec<Row>, LogFault>
     ensures reads { GivesText (λ v. v.items) result (snapshot_of (parts 10 text.now)) }
     ensures tree { IfOk result (λ v. IsRowTree v.items) }
 {
-    let (first, more) = cut_line(text);
+    let (first, more) = cut_far(text, b'\n');
     let Some(rest) = more else {
         return Err(header_fault());
     };
@@ -51,7 +51,7 @@ fn read_rows(alloc: Global, text: &[u8]) -> Result<Vec<Row>, LogFault>
     let mut home = None;
     let mut rest = text;
     'lines: loop {
-        let (line, more) = cut_line(rest);
+        let (line, more) = cut_far(rest, b'\n');
         let Some(after) = more else {
             return Err(LogFault::Text(fault_behind(number_of(&rows), TextKind::End)));
         };
