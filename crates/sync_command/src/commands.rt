@@ -121,7 +121,7 @@ impl Command {
             && self.new_value.same(&other.new_value)
     }
 
-    /// An equal command, which shares this one's file contents.
+    /// An equal command, which shares this one's long file contents.
     pub fn copy(&self, alloc: Global) -> Result<Command, NoMemory>
         ensures { IfOk result (λ c. c ≡ self.now) }
     {
