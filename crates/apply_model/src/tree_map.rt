@@ -129,7 +129,7 @@ impl TreeMap {
     }
 
     /// Does the command. `NotTaken` comes exactly where it is not applicable. The tree is
-    /// unchanged after both refusals.
+    /// unchanged after both refusals. Takes memory for a copy of the path; see `apply_owned`.
     pub fn apply(&mut self, command: &Command) -> Result<(), Break>
         ensures ok { OnOk result (IsApplicable (at self.old) command.now × (self.new ≡ store self.old command.now.node command.now.new)) }
         ensures not_taken { (result ≡ Err NotTaken) ↔ (¬ IsApplicable (at self.old) command.now) }
@@ -138,12 +138,37 @@ impl TreeMap {
         if !self.takes(command) {
             return Err(Break::NotTaken);
         }
-        if let Value::Empty = command.new_value() {
-            let _ = self.nodes.remove(command.path());
-            return Ok(());
-        }
         let path = command.path().copy(self.alloc)?;
         let value = command.new_value().copy(self.alloc)?;
+        self.set(path, value)?;
+        Ok(())
+    }
+
+    /// Does the command as `apply` does, with the same refusals, and copies nothing: its path and
+    /// its new value go into the tree. After a refusal the command is dropped.
+    pub fn apply_owned(&mut self, command: Command) -> Result<(), Break>
+        ensures ok { OnOk result (IsApplicable (at self.old) command × (self.new ≡ store self.old command.node command.new)) }
+        ensures not_taken { (result ≡ Err NotTaken) ↔ (¬ IsApplicable (at self.old) command) }
+        ensures err { OnErr result (self.new ≡ self.old) }
+    {
+        if !self.takes(&command) {
+            return Err(Break::NotTaken);
+        }
+        let (path, _, value) = command.into_parts();
+        self.set(path, value)?;
+        Ok(())
+    }
+
+    /// Gives the path its value, where that leaves a tree. Takes no memory where the value is `Empty`.
+    fn set(&mut self, path: Path, value: Value) -> Result<(), NoMemory>
+        requires { IsTree (put (at self.old) path value) }
+        ensures ok { OnOk result (self.new ≡ store self.old path value) }
+        ensures err { OnErr result (self.new ≡ self.old) }
+    {
+        if let Value::Empty = value {
+            let _ = self.nodes.remove(&path);
+            return Ok(());
+        }
         self.nodes.insert(path, value)?;
         Ok(())
     }
@@ -168,6 +193,20 @@ impl TreeMap {
                 path: path.copy(alloc)?,
                 value: value.copy(alloc)?,
             })?;
+        }
+        Ok(rows)
+    }
+
+    /// The tree's nodes that are not empty, in path order, as `rows` gives them, and copies none.
+    /// Takes memory for the vector alone; after want of memory the tree is dropped.
+    pub fn into_rows(self) -> Result<Vec<Row>, NoMemory>
+        ensures rows { IfOk result (λ rows. rows.items ≡ rows_of self) }
+        ensures tree { IfOk result (λ rows. IsRowTree rows.items) }
+    {
+        let TreeMap { alloc, nodes } = self;
+        let mut rows = Vec::with_capacity(alloc, nodes.len())?;
+        'nodes: for (path, value) in nodes {
+            rows.push(Row { path, value })?;
         }
         Ok(rows)
     }
