@@ -9,6 +9,7 @@ ghost use Rattle.sync_command.specs.Maps.{IsTreeMap, at, store};
 ghost use Rattle.sync_command.specs.Rows.{IsRowTree};
 ghost use Rattle.sync_command.specs.Trees.{IsApplicable, IsTree, put};
 ghost use Rattle.sync_command.specs.Values.{is_dir, is_empty};
+ghost use Rattle.sync_command.specs.declared.values.Value.TheVariants.{Empty};
 ghost use Rattle.apply_model.specs.Entries.{entry_of, rows_of, store_of};
 ghost use Rattle.apply_model.specs.Parents.{HoldsUnder, IsBelowDir};
 ghost use Rattle.apply_model.specs.declared.faults.Break.TheVariants.{NotTaken};
@@ -61,10 +62,15 @@ impl TreeMap {
         self.nodes.get(path)
     }
 
-    /// Whether the command is applicable to the tree. Takes no memory.
+    /// Whether the command is applicable to the tree. Takes no memory, and looks one node up, or two
+    /// where a directory becomes something else.
     pub fn takes(&self, command: &Command) -> bool
         ensures { IsTrue result ↔ IsApplicable (at self.now) command.now }
     {
+        let _ = &self.nodes;
+        if is_empty(command.old()) && !is_empty(command.new_value()) {
+            return self.has_room(command.path());
+        }
         self.holds(command.path(), command.old()) && self.makes_tree(command)
     }
 
@@ -78,37 +84,43 @@ impl TreeMap {
         }
     }
 
-    /// Whether the command's new value makes a tree of a tree that holds its old one.
+    /// Whether the command's new value makes a tree of a tree that holds its old one, which is not
+    /// empty or stays so.
     fn makes_tree(&self, command: &Command) -> bool
-        requires { at self.now command.now.node ≡ command.now.old }
+        requires holds { at self.now command.now.node ≡ command.now.old }
+        requires stays { IsTrue (is_empty command.now.old) → IsTrue (is_empty command.now.new) }
         ensures { IsTrue result ↔ IsTree (put (at self.now) command.now.node command.now.new) }
     {
         let _ = &self.nodes;
         match command.old() {
-            Value::Empty => is_empty(command.new_value()) || self.is_below_dir(command.path()),
+            Value::Empty => true,
             Value::Dir => is_dir(command.new_value()) || !self.holds_under(command.path()),
             Value::File(_) => true,
         }
     }
 
-    /// Whether a directory stands at the path's parent; a root needs none.
+    /// Whether the path is empty and a directory stands at its parent; a root needs none.
     ///
-    /// The last node before a path is its parent or stands under it, where the tree has the parent.
-    fn is_below_dir(&self, path: &Path) -> bool
-        ensures { IsTrue result ↔ IsBelowDir (at self.now) path.now }
+    /// Where the tree has the parent, the last node up to an empty path is the parent or stands
+    /// under it.
+    fn has_room(&self, path: &Path) -> bool
+        ensures { IsTrue result ↔ ((at self.now path.now ≡ Empty) × IsBelowDir (at self.now) path.now) }
     {
-        if path.depth() == 1 {
-            return true;
-        }
         match self
             .nodes
-            .range((Bound::Unbounded, Bound::Excluded(path)))
+            .range((Bound::Unbounded, Bound::Included(path)))
             .next_back()
         {
             Some((last, value)) => {
+                if last.same(path) {
+                    return false;
+                }
+                if path.depth() == 1 {
+                    return true;
+                }
                 last.under_parent_of(path) || last.parent_of(path) && value.same(&Value::Dir)
             }
-            None => false,
+            None => path.depth() == 1,
         }
     }
 
