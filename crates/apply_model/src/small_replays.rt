@@ -194,8 +194,11 @@ fn all_logs_of_up_to_three_commands(rt: HostRuntime) -> Result<(), Fail> {
             assert!(rt; agrees(alloc, start, &[*first])?);
             for second in &lines {
                 assert!(rt; agrees(alloc, start, &[*first, *second])?);
-                for third in &lines {
-                    assert!(rt; agrees(alloc, start, &[*first, *second, *third])?);
+                // behind a refused command one more tells as much as two
+                if takes {
+                    for third in &lines {
+                        assert!(rt; agrees(alloc, start, &[*first, *second, *third])?);
+                    }
                 }
             }
         }
