@@ -1,5 +1,6 @@
-//! Replays of all small logs on all small trees, beside a plain program of the definitions: a tree is a list of rows, and
-//! whether it takes a command is told by looking at each row.
+//! Replays on all trees over three nodes, of all logs of up to two commands and of those of three whose first is taken,
+//! beside a plain program of the definitions: a tree is a list of rows, and whether it takes a command is told by looking
+//! at each row.
 
 use crate::{RunBreak, TreeMap, replay, replay_owned};
 use std::alloc::Global;
@@ -181,7 +182,7 @@ fn agrees(alloc: Global, start: &[Entry], log: &[Line]) -> Result<bool, Fail> {
 }
 
 #[test]
-fn all_logs_of_up_to_three_commands(rt: HostRuntime) -> Result<(), Fail> {
+fn small_logs_on_all_small_trees(rt: HostRuntime) -> Result<(), Fail> {
     let alloc = rt.alloc();
     let trees = all_trees(alloc)?;
     let lines = all_lines(alloc)?;
