@@ -58,12 +58,16 @@ full_store m n v full p e = go (is_empty v) refl e
     go true is e = removed _ _ (full p) (sym (get-remove path_cmp_total m n p) ∙ e)
     go false is e = inserted _ _ v is (full p) (sym (get-insert path_cmp_total m n v p) ∙ e)
 
+-- a value that leaves a tree
+pub kept_put : (m : Store) (n : Node) (v : Value) → IsTreeMap m → IsTree (put (at m) n v) → IsTreeMap (store m n v)
+kept_put m n v h t = record {
+  full = full_store m n v h.full;
+  tree = subst IsTree (sym (at-store m n v)) t;
+}
+
 -- an applicable command leaves a tree
 pub kept_tree : (m : Store) (c : Change) → IsTreeMap m → IsApplicable (at m) c → IsTreeMap (store m c.node c.new)
-kept_tree m c h a = record {
-  full = full_store m c.node c.new h.full;
-  tree = subst IsTree (sym (at-store m c.node c.new)) a.tree;
-}
+kept_tree m c h a = kept_put m c.node c.new h a.tree
 
 pub kept_trees : (m : Store) (cs : List Change) → IsTreeMap m → Takes (at m) cs → IsTreeMap (stored m cs)
 kept_trees m [] h t = h

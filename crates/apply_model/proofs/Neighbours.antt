@@ -2,7 +2,7 @@
 use Rattle.std.proofs.Common.{◌≡◌, ◌↔◌, ◌<◌, length, Bool, true, false, IsTrue, [], ◌∷◌, ◌++◌, Some, None, Option, IsSome, refl, sym, ap, subst, ◌∙◌, arith}
 use Rattle.std.specs.declared.cmp.Ordering.{Ordering}
 use Rattle.std.specs.declared.cmp.Ordering.TheVariants.{Less, Equal, Greater}
-use Rattle.std.specs.declared.ops.Bound.TheVariants.{Excluded, Unbounded}
+use Rattle.std.specs.declared.ops.Bound.TheVariants.{Excluded, Included, Unbounded}
 use Rattle.std.specs.BTreeMap as btree
 use Rattle.std.specs.BTreeMap.{BTreeMap}
 use Rattle.std.specs.BTreeMap.Range.{IsRangeOf}
@@ -11,7 +11,7 @@ use Rattle.std.specs.Ordering.{is_gt, is_lt, ordering_reverse}
 use Rattle.std.proofs.lemmas.Bool.{both_ways}
 use Rattle.sync_path.specs.Order.{path_cmp_exact, path_cmp_total}
 use Rattle.sync_path.specs.Paths.{Node, IsUnder, IsUnderParentOf, parent, path_cmp, comes_before}
-use Rattle.sync_path.proofs.OrderLaws.{contiguous, child_after, from_is_lt, parent_is, parent_none, under_after, under_parent}
+use Rattle.sync_path.proofs.OrderLaws.{contiguous, child_after, equal_is, from_is_lt, parent_is, parent_none, under_after, under_parent}
 use Rattle.sync_command.specs.Maps.{IsTreeMap, Store, at, value_or_empty}
 use Rattle.sync_command.specs.Values.{is_dir, is_empty}
 use Rattle.sync_command.specs.declared.values.Value.{Value}
@@ -33,6 +33,13 @@ less_is p q h = from_is_lt (path_cmp p q) h
 
 no_false : IsTrue false → ⊥
 no_false t = both_ways false refl t
+
+-- a root needs no directory
+below_root : (m : Store) (n : Node) → length n ≡ 1 → IsTrue true ↔ IsBelowDir (at m) n
+below_root m n one = (λ t q up. absurd (never q (sym up ∙ (parent_none n).1 (omega arith))), λ k. refl)
+  where
+    never : (q : Node) → ◌≡◌ {A = Option Node} (Some q) None → ⊥
+    never q e = cc
 
 -- ---- what an ordered map holds
 
@@ -84,28 +91,6 @@ module _ (M : BTreeMap Node Value) (m : Store) (is : map.from_entries M.entries 
 
   -- ---- above
 
-  -- the last node before a path is under the path's parent
-  pub below_under : (h : IsTreeMap m) (n p : Node) (v : Value) (r front : Entries) (b : Bool) → IsRangeOf path_cmp Unbounded (Excluded n) M r → r ≡ front ++ (p, v) ∷ [] →
-      b ≡ true → IsTrue b ↔ IsUnderParentOf p n → IsTrue b ↔ IsBelowDir (at m) n
-  below_under h n p v r front b range e tells u = (λ t q up. go q up (u.0 t), λ k. tells)
-    where
-      go : (q : Node) → parent n ≡ Some q → IsUnderParentOf p n → is_dir (at m q) ≡ true
-      go q up (s, is, under) =
-          tree_above (at m) h.tree p q ((parent_is n q).0 up).1 (subst (λ k. IsUnder p k) (same_some (sym is ∙ up)) under) (full_some h p v (range.3 (p, v) front e).1)
-
-  -- it is the path's parent
-  pub below_parent : (n p : Node) (v : Value) (r front : Entries) (b : Bool) → IsRangeOf path_cmp Unbounded (Excluded n) M r → r ≡ front ++ (p, v) ∷ [] →
-      parent n ≡ Some p → IsTrue b ↔ (v ≡ Dir) → IsTrue b ↔ IsBelowDir (at m) n
-  below_parent n p v r front b range e up u = (
-    λ t q is. ap is_dir (ap (at m) (same_some (sym is ∙ up)) ∙ at_some p v (range.3 (p, v) front e).1 ∙ u.0 t),
-    λ k. u.1 (dir_is v (sym (ap is_dir (at_some p v (range.3 (p, v) front e).1)) ∙ k p up)),
-  )
-    where
-      dir_is : (w : Value) → is_dir w ≡ true → w ≡ Dir
-      dir_is Empty e = cc
-      dir_is Dir e = refl
-      dir_is (File b) e = cc
-
   has_parent : (n : Node) → (length n ≡ 1 → ⊥) → 0 < length n → (q : Node) × (parent n ≡ Some q)
   has_parent n many named = go (parent n) refl
     where
@@ -113,39 +98,98 @@ module _ (M : BTreeMap Node Value) (m : Store) (is : map.from_entries M.entries 
       go None e = let l = (parent_none n).0 e in absurd (many (omega arith))
       go (Some q) e = (q, e)
 
-  -- it is neither
-  pub below_neither : (n p : Node) (v : Value) (r front : Entries) (b : Bool) → (length n ≡ 1 → ⊥) → 0 < length n → IsRangeOf path_cmp Unbounded (Excluded n) M r → r ≡ front ++ (p, v) ∷ [] →
-      b ≡ false → ¬ IsUnderParentOf p n → ¬ (parent n ≡ Some p) → IsTrue b ↔ IsBelowDir (at m) n
-  below_neither n p v r front b many named range e denied away apart = (λ t. absurd (both_ways b denied t), λ k. absurd (meet k (has_parent n many named)))
+  -- a path that the ordered map does not have is empty
+  free_none : (n : Node) → btree.get path_cmp M n ≡ None → at m n ≡ Empty
+  free_none n e = at_is n ∙ ap value_or_empty e
+
+  -- the last node up to a path is the path itself
+  pub room_taken : (h : IsTreeMap m) (n p : Node) (v : Value) (r front : Entries) → IsRangeOf path_cmp Unbounded (Included n) M r → r ≡ front ++ (p, v) ∷ [] → p ≡ n →
+      IsTrue false ↔ ((at m n ≡ Empty) × IsBelowDir (at m) n)
+  room_taken h n p v r front range e is = (
+    λ t. absurd (no_false t),
+    λ k. absurd (both_ways _ (full_some h n v (subst (λ q. btree.get path_cmp M q ≡ Some v) is (range.3 (p, v) front e).1)) (ap is_empty k.0)),
+  )
+
+  -- the last node up to a path is another
+  module _ (n p : Node) (v : Value) (r front : Entries) (range : IsRangeOf path_cmp Unbounded (Included n) M r) (e : r ≡ front ++ (p, v) ∷ []) (apart : ¬ (p ≡ n)) where
+    held : btree.get path_cmp M p ≡ Some v
+    held = (range.3 (p, v) front e).1
+
+    low : path_cmp p n ≡ Less
+    low = go (path_cmp p n) refl (range.3 (p, v) front e).0.1
+      where
+        go : (o : Ordering) → path_cmp p n ≡ o → is_gt o ≡ false → o ≡ Less
+        go Less f up = refl
+        go Equal f up = absurd (apart (path_cmp_exact p n f))
+        go Greater f up = cc
+
+    last : (q : Node) → is_gt (path_cmp q n) ≡ false → IsSome (btree.get path_cmp M q) → is_lt (path_cmp p q) ≡ false
+    last q up some = range.4 (p, v) front e q (tt, up) some
+
+    -- so the path is empty
+    free : at m n ≡ Empty
+    free = free_none n (go (btree.get path_cmp M n) refl)
+      where
+        go : (o : Option Value) → btree.get path_cmp M n ≡ o → o ≡ None
+        go None f = refl
+        go (Some w) f = absurd (both_ways _ (last n (ap is_gt ((equal_is n n).1 refl)) (subst IsSome (sym f) refl)) (ap is_lt low))
+
+    with_free : (b : Bool) → IsTrue b ↔ IsBelowDir (at m) n → IsTrue b ↔ ((at m n ≡ Empty) × IsBelowDir (at m) n)
+    with_free b u = (λ t. (free, u.0 t), λ k. u.1 k.1)
+
+    pub room_root : length n ≡ 1 → IsTrue true ↔ ((at m n ≡ Empty) × IsBelowDir (at m) n)
+    room_root one = with_free true (below_root m n one)
+
+    -- it is under the path's parent
+    pub room_under : (h : IsTreeMap m) (b : Bool) → b ≡ true → IsTrue b ↔ IsUnderParentOf p n → IsTrue b ↔ ((at m n ≡ Empty) × IsBelowDir (at m) n)
+    room_under h b tells u = with_free b (λ t q up. go q up (u.0 t), λ k. tells)
+      where
+        go : (q : Node) → parent n ≡ Some q → IsUnderParentOf p n → is_dir (at m q) ≡ true
+        go q up (s, is, under) =
+            tree_above (at m) h.tree p q ((parent_is n q).0 up).1 (subst (λ k. IsUnder p k) (same_some (sym is ∙ up)) under) (full_some h p v held)
+
+    -- it is the path's parent
+    pub room_parent : (b : Bool) → parent n ≡ Some p → IsTrue b ↔ (v ≡ Dir) → IsTrue b ↔ ((at m n ≡ Empty) × IsBelowDir (at m) n)
+    room_parent b up u = with_free b (
+      λ t q is. ap is_dir (ap (at m) (same_some (sym is ∙ up)) ∙ at_some p v held ∙ u.0 t),
+      λ k. u.1 (dir_is v (sym (ap is_dir (at_some p v held)) ∙ k p up)),
+    )
+      where
+        dir_is : (w : Value) → is_dir w ≡ true → w ≡ Dir
+        dir_is Empty e = cc
+        dir_is Dir e = refl
+        dir_is (File b) e = cc
+
+    -- it is neither
+    pub room_neither : (b : Bool) → (length n ≡ 1 → ⊥) → 0 < length n → b ≡ false → ¬ IsUnderParentOf p n → ¬ (parent n ≡ Some p) → IsTrue b ↔ ((at m n ≡ Empty) × IsBelowDir (at m) n)
+    room_neither b many named denied away alien = (λ t. absurd (both_ways b denied t), λ k. absurd (meet k.1 (has_parent n many named)))
+      where
+        meet : IsBelowDir (at m) n → (q : Node) × (parent n ≡ Some q) → ⊥
+        meet k (q, up) = go (path_cmp p q) refl
+          where
+            above : path_cmp q n ≡ Less
+            above = less_is q n (child_after n q up)
+
+            behind : is_lt (path_cmp p q) ≡ false
+            behind = last q (ap is_gt above) (some_full q (full_from_dir _ (k q up)))
+
+            go : (o : Ordering) → path_cmp p q ≡ o → ⊥
+            go Less f = both_ways _ behind (ap is_lt f)
+            go Equal f = alien (subst (λ s. parent n ≡ Some s) (sym (path_cmp_exact p q f)) up)
+            go Greater f = away (q, up, contiguous q p n (under_parent n q up) (before_is q p (path_cmp_total.antisymm q p ∙ ap ordering_reverse f)) (before_is p n low))
+
+  -- no node stands up to the path
+  pub room_alone : (n : Node) (r : Entries) (b : Bool) → 0 < length n → IsRangeOf path_cmp Unbounded (Included n) M r → r ≡ [] → (b ≡ true → length n ≡ 1) → (length n ≡ 1 → b ≡ true) →
+      IsTrue b ↔ ((at m n ≡ Empty) × IsBelowDir (at m) n)
+  room_alone n r b named range e one root = (λ t. (free_none n (range.5 e n (tt, ap is_gt ((equal_is n n).1 refl))), (below_root m n (one t)).0 refl), λ k. go b root k.1)
     where
       meet : IsBelowDir (at m) n → (q : Node) × (parent n ≡ Some q) → ⊥
-      meet k (q, up) = go (path_cmp p q) refl
-        where
-          low : path_cmp q n ≡ Less
-          low = less_is q n (child_after n q up)
-
-          last : is_lt (path_cmp p q) ≡ false
-          last = range.4 (p, v) front e q (tt, low) (some_full q (full_from_dir _ (k q up)))
-
-          go : (o : Ordering) → path_cmp p q ≡ o → ⊥
-          go Less f = both_ways _ last (ap is_lt f)
-          go Equal f = apart (subst (λ s. parent n ≡ Some s) (sym (path_cmp_exact p q f)) up)
-          go Greater f = away (q, up, contiguous q p n (under_parent n q up) (before_is q p (path_cmp_total.antisymm q p ∙ ap ordering_reverse f)) (before_is p n (range.3 (p, v) front e).0.1))
-
-  -- no node stands before the path
-  pub below_nothing : (n : Node) (r : Entries) → (length n ≡ 1 → ⊥) → 0 < length n → IsRangeOf path_cmp Unbounded (Excluded n) M r → r ≡ [] → IsTrue false ↔ IsBelowDir (at m) n
-  below_nothing n r many named range e = (λ t. absurd (no_false t), λ k. absurd (meet k (has_parent n many named)))
-    where
-      meet : IsBelowDir (at m) n → (q : Node) × (parent n ≡ Some q) → ⊥
-      meet k (q, up) = go (btree.get path_cmp M q) (some_full q (full_from_dir _ (k q up))) (range.5 e q (tt, less_is q n (child_after n q up)))
+      meet k (q, up) = go (btree.get path_cmp M q) (some_full q (full_from_dir _ (k q up))) (range.5 e q (tt, ap is_gt (less_is q n (child_after n q up))))
         where
           go : (o : Option Value) → IsSome o → o ≡ None → ⊥
           go None s e = no_false s
           go (Some w) s e = cc
 
--- a root needs no directory
-pub below_root : (m : Store) (n : Node) → length n ≡ 1 → IsTrue true ↔ IsBelowDir (at m) n
-below_root m n one = (λ t q up. absurd (never q (sym up ∙ (parent_none n).1 (omega arith))), λ k. refl)
-  where
-    never : (q : Node) → ◌≡◌ {A = Option Node} (Some q) None → ⊥
-    never q e = cc
+      go : (c : Bool) → (length n ≡ 1 → c ≡ true) → IsBelowDir (at m) n → c ≡ true
+      go true root k = refl
+      go false root k = absurd (meet k (has_parent n (λ l. both_ways false refl (root l)) named))

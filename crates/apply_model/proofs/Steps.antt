@@ -3,11 +3,13 @@ use Rattle.std.specs.Prelude.{if◌then◌else◌}
 use Rattle.std.proofs.Common.{not, ◌≡◌, ◌↔◌, ℕ, zero, suc, ◌<◌, ◌≤◌, length, Bool, true, false, IsTrue, List, [], ◌∷◌, ◌++◌, Some, Option, refl, sym, ap, subst, ◌∙◌, arith, length-append, append_assoc}
 use Rattle.sync_path.specs.Paths.{Node, IsUnder, parent, same_path}
 use Rattle.sync_path.proofs.OrderLaws.{parent_is, under_parent, same_path_is}
-use Rattle.sync_command.specs.Trees.{Holding, IsTree, put}
+use Rattle.sync_command.specs.Changes.{Change}
+use Rattle.sync_command.specs.Trees.{Holding, IsApplicable, IsTree, put}
 use Rattle.sync_command.specs.Values.{is_dir, is_empty}
 use Rattle.sync_command.specs.declared.values.Value.{Value}
 use Rattle.sync_command.specs.declared.values.Value.TheVariants.{Dir, Empty, File}
 use Rattle.apply_model.specs.Parents.{HoldsUnder, IsBelowDir}
+use Rattle.apply_model.proofs.Kept.{empty_is}
 
 pub same_some : {p q : Node} → ◌≡◌ {A = Option Node} (Some p) (Some q) → p ≡ q
 same_some e = cc
@@ -153,3 +155,14 @@ made_from_file t n v bytes tree is = (
   λ k. put_tree t n v tree (λ f. below_from_tree t n tree (ap is_empty is)) (λ flat dir. absurd (not_both false (sym (ap is_dir is) ∙ dir) refl)),
   λ k. refl,
 )
+
+-- an empty node gets a value that is not empty
+pub room_takes : (t : Holding) (c : Change) (e f r : Bool) → IsTree t → e ≡ is_empty c.old → e ≡ true → f ≡ is_empty c.new → f ≡ false →
+    IsTrue r ↔ ((t c.node ≡ Empty) × IsBelowDir t c.node) → IsTrue r ↔ IsApplicable t c
+room_takes t c e f r tree old empty new some h = (
+  λ k. record { old = (h.0 k).0 ∙ sym nothing; tree = (made_where_empty t c.node c.new f r tree (h.0 k).0 new some (λ _. (h.0 k).1, λ _. k)).0 k },
+  λ a. h.1 (a.old ∙ nothing, below_from_put t c.node c.new a.tree (sym new ∙ some)),
+)
+  where
+    nothing : c.old ≡ Empty
+    nothing = empty_is c.old (sym old ∙ empty)

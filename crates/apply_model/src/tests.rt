@@ -1,4 +1,4 @@
-use crate::{Break, RunBreak, TreeMap, replay};
+use crate::{Break, RunBreak, TreeMap, replay, replay_owned};
 use std::alloc::Global;
 use std::test::Fail;
 use sync_command::{Command, Row, Value};
@@ -23,8 +23,12 @@ fn was_done(tree: &mut TreeMap, command: &Command) -> Result<bool, Fail> {
 
 /// The tree's rows, a line each.
 fn text(alloc: Global, tree: &TreeMap) -> Result<Vec<u8>, Fail> {
+    text_of(alloc, tree.rows(alloc)?)
+}
+
+fn text_of(alloc: Global, rows: Vec<Row>) -> Result<Vec<u8>, Fail> {
     let mut out = Vec::new(alloc);
-    for row in tree.rows(alloc)? {
+    for row in rows {
         let Row { path, value } = row;
         path.print_to(&mut out)?;
         out.push(b' ')?;
@@ -83,5 +87,28 @@ fn replays_name_the_command(rt: HostRuntime) -> Result<(), Fail> {
         )
     );
     assert_eq!(rt; text(alloc, &tree)?.as_slice(), b"a f:2\n".as_slice());
+    Ok(())
+}
+
+#[test]
+fn commands_are_handed_over(rt: HostRuntime) -> Result<(), Fail> {
+    let alloc = rt.alloc();
+    let mut tree = TreeMap::new(alloc);
+    assert!(rt; tree.apply_owned(command(alloc, b"a", b"-", b"d")?).is_ok());
+    assert!(rt;
+        matches!(
+            tree.apply_owned(command(alloc, b"b/x", b"-", b"d")?),
+            Err(Break::NotTaken)
+        )
+    );
+    let mut commands = Vec::new(alloc);
+    commands.push(command(alloc, b"a/x", b"-", b"f:1")?)?;
+    commands.push(command(alloc, b"b", b"-", b"f:2")?)?;
+    commands.push(command(alloc, b"a/x", b"f:1", b"-")?)?;
+    assert!(rt; replay_owned(&mut tree, commands).is_ok());
+    assert_eq!(rt;
+        text_of(alloc, tree.into_rows()?)?.as_slice(),
+        b"a d\nb f:2\n".as_slice()
+    );
     Ok(())
 }

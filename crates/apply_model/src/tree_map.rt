@@ -9,6 +9,7 @@ ghost use Rattle.sync_command.specs.Maps.{IsTreeMap, at, store};
 ghost use Rattle.sync_command.specs.Rows.{IsRowTree};
 ghost use Rattle.sync_command.specs.Trees.{IsApplicable, IsTree, put};
 ghost use Rattle.sync_command.specs.Values.{is_dir, is_empty};
+ghost use Rattle.sync_command.specs.declared.values.Value.TheVariants.{Empty};
 ghost use Rattle.apply_model.specs.Entries.{entry_of, rows_of, store_of};
 ghost use Rattle.apply_model.specs.Parents.{HoldsUnder, IsBelowDir};
 ghost use Rattle.apply_model.specs.declared.faults.Break.TheVariants.{NotTaken};
@@ -61,10 +62,15 @@ impl TreeMap {
         self.nodes.get(path)
     }
 
-    /// Whether the command is applicable to the tree. Takes no memory.
+    /// Whether the command is applicable to the tree. Takes no memory, and looks one node up, or two
+    /// where a directory becomes something else.
     pub fn takes(&self, command: &Command) -> bool
         ensures { IsTrue result ↔ IsApplicable (at self.now) command.now }
     {
+        let _ = &self.nodes;
+        if is_empty(command.old()) && !is_empty(command.new_value()) {
+            return self.has_room(command.path());
+        }
         self.holds(command.path(), command.old()) && self.makes_tree(command)
     }
 
@@ -78,37 +84,43 @@ impl TreeMap {
         }
     }
 
-    /// Whether the command's new value makes a tree of a tree that holds its old one.
+    /// Whether the command's new value makes a tree of a tree that holds its old one, which is not
+    /// empty or stays so.
     fn makes_tree(&self, command: &Command) -> bool
-        requires { at self.now command.now.node ≡ command.now.old }
+        requires holds { at self.now command.now.node ≡ command.now.old }
+        requires stays { IsTrue (is_empty command.now.old) → IsTrue (is_empty command.now.new) }
         ensures { IsTrue result ↔ IsTree (put (at self.now) command.now.node command.now.new) }
     {
         let _ = &self.nodes;
         match command.old() {
-            Value::Empty => is_empty(command.new_value()) || self.is_below_dir(command.path()),
+            Value::Empty => true,
             Value::Dir => is_dir(command.new_value()) || !self.holds_under(command.path()),
             Value::File(_) => true,
         }
     }
 
-    /// Whether a directory stands at the path's parent; a root needs none.
+    /// Whether the path is empty and a directory stands at its parent; a root needs none.
     ///
-    /// The last node before a path is its parent or stands under it, where the tree has the parent.
-    fn is_below_dir(&self, path: &Path) -> bool
-        ensures { IsTrue result ↔ IsBelowDir (at self.now) path.now }
+    /// Where the tree has the parent, the last node up to an empty path is the parent or stands
+    /// under it.
+    fn has_room(&self, path: &Path) -> bool
+        ensures { IsTrue result ↔ ((at self.now path.now ≡ Empty) × IsBelowDir (at self.now) path.now) }
     {
-        if path.depth() == 1 {
-            return true;
-        }
         match self
             .nodes
-            .range((Bound::Unbounded, Bound::Excluded(path)))
+            .range((Bound::Unbounded, Bound::Included(path)))
             .next_back()
         {
             Some((last, value)) => {
+                if last.same(path) {
+                    return false;
+                }
+                if path.depth() == 1 {
+                    return true;
+                }
                 last.under_parent_of(path) || last.parent_of(path) && value.same(&Value::Dir)
             }
-            None => false,
+            None => path.depth() == 1,
         }
     }
 
@@ -129,7 +141,7 @@ impl TreeMap {
     }
 
     /// Does the command. `NotTaken` comes exactly where it is not applicable. The tree is
-    /// unchanged after both refusals.
+    /// unchanged after both refusals. Takes memory for a copy of the path; see `apply_owned`.
     pub fn apply(&mut self, command: &Command) -> Result<(), Break>
         ensures ok { OnOk result (IsApplicable (at self.old) command.now × (self.new ≡ store self.old command.now.node command.now.new)) }
         ensures not_taken { (result ≡ Err NotTaken) ↔ (¬ IsApplicable (at self.old) command.now) }
@@ -138,12 +150,37 @@ impl TreeMap {
         if !self.takes(command) {
             return Err(Break::NotTaken);
         }
-        if let Value::Empty = command.new_value() {
-            let _ = self.nodes.remove(command.path());
-            return Ok(());
-        }
         let path = command.path().copy(self.alloc)?;
         let value = command.new_value().copy(self.alloc)?;
+        self.set(path, value)?;
+        Ok(())
+    }
+
+    /// Does the command as `apply` does, with the same refusals, and copies nothing: its path and
+    /// its new value go into the tree. After a refusal the command is dropped.
+    pub fn apply_owned(&mut self, command: Command) -> Result<(), Break>
+        ensures ok { OnOk result (IsApplicable (at self.old) command × (self.new ≡ store self.old command.node command.new)) }
+        ensures not_taken { (result ≡ Err NotTaken) ↔ (¬ IsApplicable (at self.old) command) }
+        ensures err { OnErr result (self.new ≡ self.old) }
+    {
+        if !self.takes(&command) {
+            return Err(Break::NotTaken);
+        }
+        let (path, _, value) = command.into_parts();
+        self.set(path, value)?;
+        Ok(())
+    }
+
+    /// Gives the path its value, where that leaves a tree. Takes no memory where the value is `Empty`.
+    fn set(&mut self, path: Path, value: Value) -> Result<(), NoMemory>
+        requires { IsTree (put (at self.old) path value) }
+        ensures ok { OnOk result (self.new ≡ store self.old path value) }
+        ensures err { OnErr result (self.new ≡ self.old) }
+    {
+        if let Value::Empty = value {
+            let _ = self.nodes.remove(&path);
+            return Ok(());
+        }
         self.nodes.insert(path, value)?;
         Ok(())
     }
@@ -168,6 +205,20 @@ impl TreeMap {
                 path: path.copy(alloc)?,
                 value: value.copy(alloc)?,
             })?;
+        }
+        Ok(rows)
+    }
+
+    /// The tree's nodes that are not empty, in path order, as `rows` gives them, and copies none.
+    /// Takes memory for the vector alone; after want of memory the tree is dropped.
+    pub fn into_rows(self) -> Result<Vec<Row>, NoMemory>
+        ensures rows { IfOk result (λ rows. rows.items ≡ rows_of self) }
+        ensures tree { IfOk result (λ rows. IsRowTree rows.items) }
+    {
+        let TreeMap { alloc, nodes } = self;
+        let mut rows = Vec::with_capacity(alloc, nodes.len())?;
+        'nodes: for (path, value) in nodes {
+            rows.push(Row { path, value })?;
         }
         Ok(rows)
     }

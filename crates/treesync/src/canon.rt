@@ -6,7 +6,7 @@ ghost use Rattle.treesync.specs.Canon.{IsCanon, IsNet, net_refusal};
 
 use crate::Refusal;
 use crate::input::log_file;
-use canon_set::{CanonFault, CanonSet, canon_owned};
+use canon_set::{CanonFault, canon_owned};
 use log_text::print_log;
 use std::alloc::Global;
 use sync_command::Command;

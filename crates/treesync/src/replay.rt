@@ -9,7 +9,7 @@ ghost use Rattle.log_text.specs.Snapshots.{snapshot_text};
 
 use crate::Refusal;
 use crate::input::{log_file, snapshot_file};
-use apply_model::{RunBreak, TreeMap, replay as replay_on};
+use apply_model::{RunBreak, TreeMap, replay_owned};
 use log_text::print_snapshot;
 use std::alloc::Global;
 use sync_command::{Command, Row};
@@ -26,7 +26,7 @@ fn refusal_of(fault: RunBreak) -> Refusal
     }
 }
 
-/// The text of the snapshot with these rows after the commands.
+/// The text of the snapshot with these rows after the commands. The tree takes both over.
 fn text_after(alloc: Global, rows: Vec<Row>, commands: Vec<Command>) -> Result<Vec<u8>, Refusal>
     requires { IsRowTree rows.items }
     ensures { IsJudged (λ text. text.items) (IsAfter rows.items commands.items) result }
@@ -34,20 +34,17 @@ fn text_after(alloc: Global, rows: Vec<Row>, commands: Vec<Command>) -> Result<V
     let Ok(mut tree) = TreeMap::from_rows(alloc, rows) else {
         return Err(Refusal::Memory);
     };
-    match replay_on(&mut tree, &commands) {
-        Ok(()) => {}
-        Err(fault) => return Err(refusal_of(fault)),
+    match replay_owned(&mut tree, commands) {
+        Ok(()) => tree_text(alloc, tree),
+        Err(fault) => Err(refusal_of(fault)),
     }
-    // a long log need not stay while the text is made
-    drop(commands);
-    tree_text(alloc, &tree)
 }
 
-/// The text of a tree's snapshot.
-fn tree_text(alloc: Global, tree: &TreeMap) -> Result<Vec<u8>, Refusal>
-    ensures { IsJudged (λ text. text.items) (λ a. a ≡ Ok (snapshot_text (rows_of tree.now))) result }
+/// The text of a tree's snapshot. The tree goes into it, so that no row is copied.
+fn tree_text(alloc: Global, tree: TreeMap) -> Result<Vec<u8>, Refusal>
+    ensures { IsJudged (λ text. text.items) (λ a. a ≡ Ok (snapshot_text (rows_of tree))) result }
 {
-    let Ok(rows) = tree.rows(alloc) else {
+    let Ok(rows) = tree.into_rows() else {
         return Err(Refusal::Memory);
     };
     let mut text = Vec::new(alloc);
