@@ -208,9 +208,12 @@ impl LogSum {
         match seat {
             None => self.touch_new(command)?,
             Some(Seat { place: None, .. }) => self.touch_above(command)?,
-            Some(Seat {
-                place: Some(place), ..
-            }) => self.touch_again(place, command)?,
+            Some(
+                Seat {
+                    place: Some(place),
+                    ..
+                },
+            ) => self.touch_again(place, command)?,
         }
         Ok(())
     }
