@@ -12,6 +12,10 @@ use Rattle.treesync.specs.declared.refusal.Refusal.TheVariants.{Words, Read, Too
 abbrev pub Then : {A B : Type 0} → (Names → Result A Refusal → Type 0) → (A → Names → Result B Refusal → Type 0) → Names → Result B Refusal → Type 0
 Then {A} P Q held answer = ((r : Refusal) × P held (Err r) × (answer ≡ Err r)) ⊎ ((a : A) × P held (Ok a) × Q a held answer)
 
+-- one answer at most is right, whatever is held
+abbrev pub IsOne : {A : Type 0} → (Names → Result A Refusal → Type 0) → Type 0
+IsOne {A} P = (held : Names) (one other : Result A Refusal) → P held one → P held other → one ≡ other
+
 -- Over files that tell: the right answer, or want of memory, or a failed read for which the count of faults rose.
 abbrev pub IsRight : {A : Type 0} → (Result A Refusal → Type 0) → Type 0 → Result A Refusal → Type 0
 IsRight P rose (Ok a) = P (Ok a)

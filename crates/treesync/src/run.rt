@@ -4,7 +4,7 @@ ghost use Rattle.std.specs.Prelude.{◌≡◌, ◌⊎◌, ◌≤◌, None, Ok, m
 ghost use Rattle.sync_port.specs.Told.{Rose, Told};
 ghost use Rattle.tool_words.specs.Jobs.{job_of};
 ghost use Rattle.tool_words.specs.Help.{help_text};
-ghost use Rattle.treesync.specs.Answers.{Answers, IsJudged};
+ghost use Rattle.treesync.specs.Answers.{Answers, IsJudged, IsOne};
 ghost use Rattle.treesync.specs.Jobs.{Finds, IsAnswer, IsJobAnswer};
 ghost use Rattle.treesync.specs.Ends.{Ran};
 
@@ -55,6 +55,7 @@ fn find<F: Files>(alloc: Global, words: &[String], files: &mut F) -> Result<Vec<
 /// written to `out`, which was flushed. After every other status but 4 `out` gained nothing, and after 4 a front of
 /// the text. On a refusal `err` gained its one line, or a front of it where writing to `err` failed, which changes
 /// no status. What the files hold is as before, and no count of faults falls. Status 16 may come at any time.
+/// The words and the bytes under the names of `files` determine the right answer: there are never two.
 pub fn run<F: Files, O: Sink, E: Sink>(
     alloc: Global,
     words: &[String],
@@ -66,6 +67,7 @@ pub fn run<F: Files, O: Sink, E: Sink>(
         (F.told files.old) (Rose (F.faults files.old) (F.faults files.new))
         (O.told out.old) (O.told out.new) (Rose (O.faults out.old) (O.faults out.new))
         (E.told err.old) (E.told err.new) (Rose (E.faults err.old) (E.faults err.new)) result }
+    ensures one { IsOne (IsAnswer (map string_bytes words.now)) }
     ensures refused { result ≡ 2 → job_of (map string_bytes words.now) ≡ None }
     ensures no_job { job_of (map string_bytes words.now) ≡ None → (result ≡ 2) ⊎ (result ≡ 16) }
     ensures held { Told (F.told files.old) (F.told files.new) (λ m k. k.held ≡ m.held) }
