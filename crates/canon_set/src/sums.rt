@@ -233,7 +233,8 @@ impl LogSum {
         CanonSet::from_parts(alloc, commands)
     }
 
-    /// The net set of the log, as `net` gives it, made of the sum's own paths and values.
+    /// The net set of the log, as `net` gives it, made of the sum's own paths and values. After want of memory the sum
+    /// is dropped.
     pub fn into_net(self) -> Result<CanonSet, NoMemory>
         ensures { (cs : List Change) → StandsFor self cs → IfOk result (λ s. s ≡ canonical (net cs)) }
     {
