@@ -1,4 +1,7 @@
-pub mod Lines
+pub mod LineSteps
+pub mod States
+pub mod Known
+pub mod ReadLog
 pub mod LogLines
 pub mod RowLines
 pub mod Fields
@@ -6,3 +9,6 @@ pub mod FrameLaws
 pub mod ValueLaws
 pub mod LogLaws
 pub mod RowLaws
+pub mod OpenLogLemmas
+pub mod PieceLemmas
+pub mod CallerLemmas

@@ -1,4 +1,11 @@
 pub mod Frame
+pub mod Versions
 pub mod Logs
 pub mod Snapshots
 pub mod Reading
+pub mod RowLists
+pub mod CommandLists
+pub mod Queue
+pub mod Pieces
+pub mod LogPieces
+pub mod OpenLogs

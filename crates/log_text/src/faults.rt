@@ -64,7 +64,7 @@ pub struct TextFault {
 }
 
 /// Why a text was not read.
-#[derive(Debug, Drop, Error)]
+#[derive(Clone, Copy, Debug, Error)]
 pub enum LogFault {
     /// The text is none of its form.
     #[error("{0}")]
@@ -73,7 +73,7 @@ pub enum LogFault {
     Memory,
 }
 
-/// Why a line was not read: what is wrong with it, or want of memory.
+/// Why a line was not read: what is wrong with it, or that memory ran out.
 #[derive(Debug, Drop, Error)]
 pub enum LineFault {
     #[error("{0}")]

@@ -1,25 +1,27 @@
-//! What every text form shares: the fields of a line, the end line, and where a fault stands.
+//! What every text form shares: the fields of a line, the end line, and where a fault state.
 //!
-//! A reader of a form goes from line to line: it cuts a line off, asks for its `fields_of`, ends at an
-//! end line with `end_fault`, and reads every other line by its form. `specs/Frame.antt` has the
-//! meaning, for any form: `framed_of` is the reading and `framed_text` the text.
+//! `crate::pieces` reads the lines of every form. `specs/Frame.antt` has the meaning, for any form:
+//! `framed_of` is the reading and `framed_text` the text.
 
-ghost use Rattle.std.specs.Prelude.{◌≡◌, ◌≤◌, ◌&&◌, ◌++◌, [], ◌∷◌, codes, decimal, length, take, OnOk, OnErr};
+ghost use Rattle.std.specs.Prelude.{◌≡◌, ◌≤◌, ◌+◌, ◌&&◌, ◌++◌, [], ◌∷◌, codes, decimal, length, take, OnOk, OnErr};
 ghost use Rattle.std.specs.Str.{bytes_eq};
 ghost use Rattle.sync_path.specs.Paths.{parts};
 ghost use Rattle.sync_path.specs.Reading.{path_of};
 ghost use Rattle.sync_command.specs.Values.{value_of};
-ghost use Rattle.log_text.specs.Frame.{begins_digit, fault_at, end_fault, behind_end, header_fault, ended, end_line};
+ghost use Rattle.log_text.specs.Frame.{begins_digit, fault_at, header_fault, ended, end_line};
 ghost use Rattle.log_text.specs.Reading.{AreFields, GivesLine, lifted, with_kind};
 
 use crate::faults::{LineFault, LogFault, TextFault, TextKind};
 use itoa::Buffer;
 use std::alloc::Global;
-use sync_command::{Value, ValueFault};
-use sync_path::bytes::cut_far;
+use sync_command::{Value, ValueFault, Version};
+use sync_path::bytes::split_far;
 use sync_path::{NoMemory, Path, PathFault};
 
-/// The fields of a line, as far as the forms tell them apart.
+/// The most items that a text has: the commands of a log, or the rows of a snapshot.
+pub const MAX_ITEMS: usize = 1_048_576;
+
+/// The fields of a line, as far as a form needs them.
 #[derive(Clone, Copy)]
 pub enum Fields<'a> {
     /// The number field of an end line.
@@ -62,25 +64,24 @@ fn two_fields<'a>(first: &'a [u8], second: &'a [u8]) -> Fields<'a>
 pub fn fields_of(line: &[u8]) -> Fields<'_>
     ensures { AreFields result (parts 32 line.now) }
 {
-    let (first, more) = cut_far(line, b' ');
+    let (first, more) = split_far(line, b' ');
     let Some(rest) = more else {
         return Fields::Other;
     };
-    let (second, more) = cut_far(rest, b' ');
+    let (second, more) = split_far(rest, b' ');
     let Some(rest) = more else {
         return two_fields(first, second);
     };
-    let (third, more) = cut_far(rest, b' ');
+    let (third, more) = split_far(rest, b' ');
     match more {
         None => Fields::Three(first, second, third),
         Some(_) => Fields::Other,
     }
 }
 
-/// The fault of the line behind `count` lines of the form: lines count from 1, and the form's first
-/// line is line 1.
-pub fn fault_behind(count: usize, kind: TextKind) -> TextFault
-    requires { count ≤ 1048577 }
+/// The fault of the line after `count` lines of the form: lines count from 1, and the first line is line 1.
+pub fn fault_after(count: usize, kind: TextKind) -> TextFault
+    requires { count ≤ MAX_ITEMS + 1 }
     ensures { result ≡ fault_at count kind }
 {
     TextFault {
@@ -89,48 +90,23 @@ pub fn fault_behind(count: usize, kind: TextKind) -> TextFault
     }
 }
 
-/// Why the line behind `count` lines of the form was not read, as a fault of the text.
+/// Why the line after `count` lines of the form was not read, as a fault of the text.
 pub fn line_fault(count: usize, fault: LineFault) -> LogFault
-    requires { count ≤ 1048577 }
+    requires { count ≤ MAX_ITEMS + 1 }
     ensures { result ≡ lifted count fault }
 {
     match fault {
-        LineFault::Kind(kind) => LogFault::Text(fault_behind(count, kind)),
+        LineFault::Kind(kind) => LogFault::Text(fault_after(count, kind)),
         LineFault::Memory => LogFault::Memory,
     }
 }
 
 /// Whether a field is the decimal spelling of a number.
-fn is_decimal(field: &[u8], n: u64) -> bool
+pub fn is_decimal(field: &[u8], n: u64) -> bool
     ensures { result ≡ bytes_eq field.now (decimal n) }
 {
     let mut buffer = Buffer::new();
     field == buffer.format(n).as_bytes()
-}
-
-/// What is wrong behind a right end line that stands behind `count` lines of the form.
-fn behind_end(count: usize, after: &[u8]) -> Option<TextFault>
-    requires { count ≤ 1048576 }
-    ensures { result ≡ behind_end count (parts 10 after.now) }
-{
-    if after.len() == 0 {
-        None
-    } else {
-        Some(fault_behind(count + 1, TextKind::After))
-    }
-}
-
-/// What is wrong with an end line behind `count` lines of the form: Count where its number is not the
-/// decimal spelling of `count`, and After where something stands behind it.
-pub fn end_fault(count: usize, number: &[u8], after: &[u8]) -> Option<TextFault>
-    requires { count ≤ 1048576 }
-    ensures { result ≡ end_fault count number.now (parts 10 after.now) }
-{
-    if is_decimal(number, count as u64) {
-        behind_end(count, after)
-    } else {
-        Some(fault_behind(count, TextKind::Count))
-    }
 }
 
 /// The path of a field, or the fault Path.
@@ -144,18 +120,18 @@ pub fn read_path(alloc: Global, field: &[u8]) -> Result<Path, LineFault>
     }
 }
 
-/// The value of a field, or the fault Value.
-pub fn read_value(alloc: Global, field: &[u8]) -> Result<Value, LineFault>
-    ensures { GivesLine result (with_kind TextKind.Value (value_of field.now)) }
+/// The value of a field in a text of this version, or the fault Value.
+pub fn read_value(alloc: Global, version: Version, field: &[u8]) -> Result<Value, LineFault>
+    ensures { GivesLine result (with_kind TextKind.Value (value_of version field.now)) }
 {
-    match Value::read(alloc, field) {
+    match Value::read(alloc, version, field) {
         Ok(value) => Ok(value),
         Err(ValueFault::Memory) => Err(LineFault::Memory),
         Err(_) => Err(LineFault::Kind(TextKind::Value)),
     }
 }
 
-/// The fault of a first line that is not the form's.
+/// The fault of a first line that is none of the form's.
 pub fn header_fault() -> LogFault
     ensures { result ≡ LogFault.Text header_fault }
 {
@@ -165,8 +141,8 @@ pub fn header_fault() -> LogFault
     })
 }
 
-/// Appends the end line behind `count` lines of the form. After want of memory `out` begins with what it held.
-#[tactic(auto, using(sync_path::proofs::Texts::kept_on, sync_path::proofs::Texts::kept_more))]
+/// Appends the end line after `count` lines of the form. Where memory runs out, `out` begins with what it held.
+#[tactic(auto, using(sync_path::proofs::CallerLemmas::kept_on, sync_path::proofs::CallerLemmas::kept_more))]
 pub fn print_end(out: &mut Vec<u8>, count: u64) -> Result<(), NoMemory>
     ensures ok { OnOk result (out.new.items ≡ out.old.items ++ ended (end_line count)) }
     ensures err { OnErr result (take (length out.old.items) out.new.items ≡ out.old.items) }

@@ -1,22 +1,23 @@
-use Rattle.std.proofs.Common.{refl}
-use Rattle.log_text.specs.Logs.{log_of, log_first, judge_change}
-use Rattle.log_text.proofs.Lines.{first_right, first_wrong, first_only}
+use Rattle.std.proofs.Common.{[], ◌∙◌, ap, Ok, sym}
+use Rattle.std.proofs.lemmas.Result.{err_from_is_err_and}
+use Rattle.sync_command.specs.declared.values.Version.TheVariants.{One}
+use Rattle.log_text.specs.Logs.{log_of}
+use Rattle.log_text.proofs.LogLaws.{log_of_version}
 use Rattle.log_text.proofs.log.read_log.Goals as goal
 
-pub returns-in_default : goal.returns-in_default
+pub returns-in_err-read_text-clause-reads : goal.returns-in_err-read_text-clause-reads
 unfolding log_of
-returns-in_default c =
-    rw (c.header_fault.ensures, first_only judge_change log_first c.args.text.now c.cut_far.result.0.now (rw c.in_default.is at c.cut_far.ensures.parts))
-    refl
+returns-in_err-read_text-clause-reads c =
+    let p = err_from_is_err_and c.from_residual.result c.from_residual.ensures.1 in
+    rw (p.1, p.2) (c.in_err-read_text.ensures tt One (record { version = c.new-form.ensures.version; commands = c.new-form.ensures.commands }))
 
-pub returns-then-eq : goal.returns-then-eq
+pub returns-clause-reads : goal.returns-clause-reads
 unfolding log_of
-returns-then-eq c =
-    rw (first_right judge_change log_first c.args.text.now c.cut_far.result.0.now c.in-Some.rest.now c.eq.result (rw c.in-Some.is at c.cut_far.ensures.parts) (rw c.as_slice.ensures at c.eq.ensures) c.if-eq.true)
-    c.read_commands.ensures
+returns-clause-reads c =
+    let f = c.in_ok-read_text.ensures tt One (record { version = c.new-form.ensures.version; commands = c.new-form.ensures.commands }) in
+    let version = sym f.1.version ∙ sym c.into_parts.ensures.version in
+    let commands = sym f.1.commands ∙ ap (λ v. v.items) (sym c.into_parts.ensures.commands) in
+    f.2 ∙ (λ i. Ok (version i, commands i))
 
-pub returns-else-eq : goal.returns-else-eq
-unfolding log_of
-returns-else-eq c =
-    rw (c.header_fault-else-eq.ensures, first_wrong judge_change log_first c.args.text.now c.cut_far.result.0.now c.in-Some.rest.now c.eq.result (rw c.in-Some.is at c.cut_far.ensures.parts) (rw c.as_slice.ensures at c.eq.ensures) c.if-eq.false)
-    refl
+pub returns-clause-printable : goal.returns-clause-printable
+returns-clause-printable c = log_of_version c.args.text.now c.into_parts.result.0 c.into_parts.result.1.items (returns-clause-reads c)

@@ -1,22 +1,23 @@
-use Rattle.std.proofs.Common.{refl}
-use Rattle.log_text.specs.Snapshots.{snapshot_of, snapshot_first, row_of}
-use Rattle.log_text.proofs.Lines.{first_right, first_wrong, first_only}
+use Rattle.std.proofs.Common.{[], ◌∙◌, ap, Ok, sym}
+use Rattle.std.proofs.lemmas.Result.{err_from_is_err_and}
+use Rattle.sync_command.specs.declared.values.Version.TheVariants.{One}
+use Rattle.log_text.specs.Snapshots.{snapshot_of}
+use Rattle.log_text.proofs.RowLaws.{rows_of_version}
 use Rattle.log_text.proofs.snapshot.read_snapshot.Goals as goal
 
-pub returns-in_default-clause-reads : goal.returns-in_default-clause-reads
+pub returns-in_err-read_text-clause-reads : goal.returns-in_err-read_text-clause-reads
 unfolding snapshot_of
-returns-in_default-clause-reads c =
-    rw (c.header_fault.ensures, first_only row_of snapshot_first c.args.text.now c.cut_far.result.0.now (rw c.in_default.is at c.cut_far.ensures.parts))
-    refl
+returns-in_err-read_text-clause-reads c =
+    let p = err_from_is_err_and c.from_residual.result c.from_residual.ensures.1 in
+    rw (p.1, p.2) (c.in_err-read_text.ensures tt One c.new-form.ensures)
 
-pub returns-then-eq-clause-reads : goal.returns-then-eq-clause-reads
+pub returns-clause-reads : goal.returns-clause-reads
 unfolding snapshot_of
-returns-then-eq-clause-reads c =
-    rw (first_right row_of snapshot_first c.args.text.now c.cut_far.result.0.now c.in-Some.rest.now c.eq.result (rw c.in-Some.is at c.cut_far.ensures.parts) (rw c.as_slice.ensures at c.eq.ensures) c.if-eq.true)
-    c.read_rows.ensures.reads
+returns-clause-reads c =
+    let f = c.in_ok-read_text.ensures tt One c.new-form.ensures in
+    let version = ap (λ xs. xs.0) (sym f.1) ∙ sym c.into_parts.ensures.version in
+    let rows = ap (λ xs. xs.1) (sym f.1) ∙ sym c.into_parts.ensures.rows in
+    f.2 ∙ (λ i. Ok (version i, rows i))
 
-pub returns-else-eq-clause-reads : goal.returns-else-eq-clause-reads
-unfolding snapshot_of
-returns-else-eq-clause-reads c =
-    rw (c.header_fault-else-eq.ensures, first_wrong row_of snapshot_first c.args.text.now c.cut_far.result.0.now c.in-Some.rest.now c.eq.result (rw c.in-Some.is at c.cut_far.ensures.parts) (rw c.as_slice.ensures at c.eq.ensures) c.if-eq.false)
-    refl
+pub returns-clause-printable : goal.returns-clause-printable
+returns-clause-printable c = rows_of_version c.args.text.now c.into_parts.result.0 c.into_parts.result.1.items (returns-clause-reads c)
