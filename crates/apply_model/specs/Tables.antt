@@ -1,0 +1,90 @@
+-- A tree kept in a table: what the entries of its nodes say.
+use Rattle.std.specs.Prelude.{◌≡◌, ℕ, ◌+◌, ◌-◌, Bool, true, false, not, ◌&&◌, ◌||◌, List, [], ◌∷◌, length, Option, None, Some, if◌then◌else◌}
+use Rattle.std.specs.FinMap as map
+use Rattle.sync_path.specs.Paths.{Node, parent, same_path}
+use Rattle.sync_command.specs.Maps.{IsTreeMap, Store, at, store}
+use Rattle.sync_command.specs.Values.{is_dir, is_empty}
+use Rattle.sync_command.specs.declared.values.Value.{Value}
+use Rattle.sync_command.specs.declared.values.Value.TheVariants as value
+use Rattle.apply_model.specs.declared.table.Entry.{Entry}
+
+-- the entry of each node
+abbrev pub Table : Type 0
+Table = Node → Option Entry
+
+-- the value that an entry gives; a node without one is empty
+abbrev pub value_in : Option Entry → Value
+value_in None = value.Empty
+value_in (Some e) = e.value
+
+abbrev pub children_in : Option Entry → ℕ
+children_in None = 0
+children_in (Some e) = e.children
+
+-- the map of what the entries hold
+abbrev pub map_of : List (Node × Entry) → Store
+map_of [] = map.empty
+map_of (e ∷ es) = store (map_of es) e.0 e.1.value
+
+-- a map holds something at the node
+abbrev pub is_full : Store → Node → Bool
+is_full m p = not (is_empty (at m p))
+
+-- ---- counts of children
+
+abbrev pub is_parent : Option Node → Node → Bool
+is_parent None q = false
+is_parent (Some r) q = same_path q r
+
+-- p is a child of q
+abbrev pub is_child : Node → Node → Bool
+is_child p q = is_parent (parent p) q
+
+-- a list of paths has this one
+abbrev pub has : List Node → Node → Bool
+has [] p = false
+has (k ∷ ks) p = same_path p k || has ks p
+
+-- each path stands once in the list
+abbrev pub is_once : List Node → Bool
+is_once [] = true
+is_once (k ∷ ks) = not (has ks k) && is_once ks
+
+-- so many children of q are full
+pub record IsChildCount (full : Node → Bool) (q : Node) (count : ℕ) : Type 0 where
+  pub children : List Node
+  pub each : (p : Node) → has children p ≡ (is_child p q && full p)
+  pub once : is_once children ≡ true
+  pub is : count ≡ length children
+
+-- the map is a tree, and each entry counts the children that are full
+pub record IsKept (m : Store) (entry : Table) : Type 0 where
+  pub tree : IsTreeMap m
+  pub counts : (q : Node) → IsChildCount (is_full m) q (children_in (entry q))
+
+-- ---- changes of an entry
+
+-- with another value
+abbrev pub revalued : Value → Option Entry → Option Entry
+revalued v None = None
+revalued v (Some e) = Some (record { value = v; children = e.children })
+
+-- with one child more, or one fewer
+abbrev pub recounted : Bool → Option Entry → Option Entry
+recounted more None = None
+recounted more (Some e) = Some (record { value = e.value; children = if more then e.children + 1 else e.children - 1 })
+
+-- the entry of a node without children
+abbrev pub entry_with : Value → Option Entry
+entry_with v = Some (record { value = v; children = 0 })
+
+-- the entry of q, where the node n begins or ceases to be full
+abbrev pub with_child : Bool → Node → Table → Table
+with_child more n entry q = if is_child n q then recounted more (entry q) else entry q
+
+-- ---- parents
+
+-- some entry gives the node's parent as a directory
+abbrev pub any_dir_above : Node → List (Node × Entry) → Bool
+any_dir_above n [] = false
+any_dir_above n (e ∷ es) = (is_child n e.0 && is_dir e.1.value) || any_dir_above n es
