@@ -22,8 +22,10 @@ def run(words):
     )
     os.close(null)
     _, status, usage = os.wait4(child, 0)
-    if status != 0:
-        sys.exit(f"alternate.py: {words} ended with status {os.waitstatus_to_exitcode(status)}")
+    status = os.waitstatus_to_exitcode(status)
+    # `conflicts` ends with 1 where there are some
+    if status not in (0, 1):
+        sys.exit(f"alternate.py: {words} ended with status {status}")
     return usage.ru_utime + usage.ru_stime, usage.ru_maxrss
 
 

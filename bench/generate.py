@@ -1,17 +1,15 @@
 #!/usr/bin/env python3
-"""Makes logs, snapshots and lists of paths in named shapes and sizes.
+"""Makes a snapshot, and logs that its tree takes, in named shapes and sizes.
 
-    generate.py SHAPE LINES FOLDER
+    generate.py SHAPE LINES FOLDER [LOGS]
 
-writes FOLDER/SHAPE-LINES.log, a log of LINES commands; FOLDER/SHAPE-LINES.snap, a snapshot whose
-tree takes that log; and FOLDER/SHAPE-LINES.paths, the text of each path that the log names, in
-random order, one a line. The same words make the same bytes each time.
+writes FOLDER/SHAPE-LINES.snap, the snapshot of a tree, and FOLDER/SHAPE-LINES.log, a log of LINES
+commands that it takes; with LOGS in place of the one log FOLDER/SHAPE-LINES-K.log for each K from 1
+to LOGS, each a log of LINES commands that begins at the tree. The same words make the same bytes.
 
-    realistic   some hundred folders of projects, paths of about 37 bytes, small texts as contents
-    wide        one folder with all files
-    deep        files below chains of folders, paths of 60 names
-    often       1000 files, each changed very often
-    random      files in folders at random places, named in random order
+    wide   one folder with all files, each changed once
+    tree   folders of 20 nodes, 3 to 6 deep, names of 8 to 20 bytes; 3 commands in 10 change a node again
+    deep   files below chains of folders: paths of 60 names
 """
 
 import random
@@ -31,167 +29,149 @@ def escaped(text):
     )
 
 
-class Maker:
-    """A log that grows command by command, and the tree that it began with and now has."""
+def some_text(chance):
+    """The text of a file whose contents are a few words."""
+    return "f:" + escaped(" ".join(chance.choices(WORDS, k=chance.randrange(1, 9))) + "\n")
 
-    def __init__(self, shape, lines):
-        self.chance = random.Random(f"{shape} {lines}")
+
+class Shape:
+    """A tree, and the places of files that logs name."""
+
+    def __init__(self, chance, lines):
+        self.chance = chance
         self.lines = lines
-        self.first = {}  # what the tree held at the start, by the path's names
-        self.now = {}  # what it holds now, where a command named it
+        self.tree = {}
+        self.files = []
+        self.again = 0.0
+
+    def folder(self, names, there):
+        """A folder, which is there from the start or is made by a log."""
+        if there:
+            for depth in range(1, len(names) + 1):
+                self.tree[names[:depth]] = "d"
+        return names
+
+    def file(self, names):
+        """A file's place. Two in five files are there from the start, if their folder is."""
+        self.files.append(names)
+        if self.tree.get(names[:-1]) == "d" and self.chance.random() < 0.4:
+            self.tree[names] = some_text(self.chance)
+
+
+def wide(shape):
+    folder = shape.folder(("wide",), True)
+    for number in shape.chance.sample(range(10 * shape.lines), shape.lines):
+        shape.file(folder + (f"file{number}",))
+
+
+def tree(shape):
+    shape.again = 0.3
+    chance = shape.chance
+    taken = set()
+
+    def name():
+        while True:
+            letters = chance.choices("abcdefghijklmnopqrstuvwxyz", k=chance.randrange(8, 21))
+            name = "".join(letters)
+            if name not in taken:
+                taken.add(name)
+                return name
+
+    folders = [()]
+    while len(shape.files) < shape.lines:
+        above = chance.choice(folders) if len(folders) > 1 else ()
+        is_there = not above or above in shape.tree
+        folder = shape.folder(above + (name(),), is_there and chance.random() < 0.8)
+        if len(folder) < 5:
+            folders.append(folder)
+        if len(folder) >= 2:
+            for _ in range(20):
+                shape.file(folder + (name(),))
+
+
+def deep(shape):
+    chance = shape.chance
+    for number in range(max(1, shape.lines // 4096)):
+        names = (f"chain{number}",) + tuple(chance.choices("abcdefghij", k=58))
+        folder = shape.folder(names, chance.random() < 0.5)
+        for at in range(4096):
+            shape.file(folder + (f"f{at}",))
+
+
+class Log:
+    """A log that grows command by command, and what the tree holds after it."""
+
+    def __init__(self, shape):
+        self.first = shape.tree
+        self.lines = shape.lines
+        self.now = {}
         self.commands = []
 
-    def full(self):
+    def is_full(self):
         return len(self.commands) >= self.lines
 
-    def text(self, size):
-        """The text of a file whose contents are a few words."""
-        words = self.chance.choices(WORDS, k=size)
-        return "f:" + escaped(" ".join(words) + "\n")
-
-    def holds(self, names, value):
-        """The tree held this at the start."""
-        self.first[names] = value
-
     def value(self, names):
-        if names in self.now:
-            return self.now[names]
-        return self.first.get(names, "-")
+        return self.now.get(names) or self.first.get(names, "-")
 
     def change(self, names, value):
-        """The next command: this value at that path."""
         old = self.value(names)
-        if old == value or self.full():
-            return
-        self.now[names] = value
-        self.commands.append((names, old, value))
+        if old != value and not self.is_full():
+            self.now[names] = value
+            self.commands.append((names, old, value))
 
-    def other_text(self, names):
-        """The text of a file that differs from what the path holds."""
-        while True:
-            text = self.text(self.chance.randrange(1, 9))
-            if text != self.value(names):
-                return text
+    def change_file(self, chance, names):
+        """Changes, makes or deletes a file; makes the folders above it first."""
+        for depth in range(1, len(names)):
+            self.change(names[:depth], "d")
+        is_gone = self.value(names) != "-" and chance.random() < 0.2
+        value = "-" if is_gone else some_text(chance)
+        if self.value(names[:-1]) == "d":
+            self.change(names, value)
 
 
-def some_files(maker, place_of, again):
-    """Makes, changes and deletes files: at each step a file that was named before, with the given
-    chance, and else the next new one. Two in five were there from the start, if their folder was."""
+def log_of(shape, chance):
+    log = Log(shape)
+    files = shape.files[:]
+    chance.shuffle(files)
     named = []
-    while not maker.full():
-        if named and maker.chance.random() < again:
-            names = maker.chance.choice(named)
-            gone = maker.value(names) != "-" and maker.chance.random() < 0.2
-            maker.change(names, "-" if gone else maker.other_text(names))
-            continue
-        names = place_of(len(named))
-        named.append(names)
-        if maker.first.get(names[:-1]) == "d" and maker.chance.random() < 0.4:
-            maker.holds(names, maker.text(maker.chance.randrange(1, 9)))
-        gone = maker.value(names) != "-" and maker.chance.random() < 0.2
-        maker.change(names, "-" if gone else maker.other_text(names))
-
-
-def realistic(maker):
-    chance = maker.chance
-    folders = []
-    for number in range(max(1, maker.lines // 2048)):
-        project = (f"proj{number // 24}",)
-        folder = project + (f"dir{number}",)
-        maker.holds(project, "d")
-        if chance.random() < 0.5:
-            maker.holds(folder, "d")
+    while not log.is_full():
+        if named and (not files or chance.random() < shape.again):
+            names = chance.choice(named)
         else:
-            maker.change(folder, "d")
-        folders.append(folder)
-    some_files(maker, lambda at: chance.choice(folders) + (f"file name{at}.txt",), 0.3)
-
-
-def wide(maker):
-    maker.holds(("wide",), "d")
-    some_files(maker, lambda at: ("wide", f"file{at * 7919 % 1048583}"), 0)
-
-
-def deep(maker):
-    chance = maker.chance
-    folders = []
-    for number in range(max(1, maker.lines // 4096)):
-        folder = (f"chain{number}",) + tuple(chance.choices("abcdefghij", k=58))
-        made = chance.random() < 0.5
-        for depth in range(1, len(folder) + 1):
-            if made:
-                maker.change(folder[:depth], "d")
-            else:
-                maker.holds(folder[:depth], "d")
-        folders.append(folder)
-    some_files(maker, lambda at: chance.choice(folders) + (f"f{at}",), 0.1)
-
-
-def often(maker):
-    chance = maker.chance
-    maker.holds(("often",), "d")
-    files = [("often", f"file{number}") for number in range(1000)]
-    while not maker.full():
-        names = chance.choice(files)
-        gone = maker.value(names) != "-" and chance.random() < 0.1
-        maker.change(names, "-" if gone else maker.other_text(names))
-
-
-def at_random(maker):
-    chance = maker.chance
-    folders = [("root",)]
-    maker.holds(folders[0], "d")
-    for _ in range(max(1, maker.lines // 64)):
-        above = chance.choice(folders)
-        if len(above) > 8:
-            continue
-        folder = above + ("".join(chance.choices("abcdefghijklmnopqrstuvwxyz", k=7)),)
-        maker.holds(folder, "d")
-        folders.append(folder)
-    some_files(maker, lambda at: chance.choice(folders) + (f"{chance.getrandbits(40):x}",), 0)
-
-
-SHAPES = {
-    "realistic": realistic,
-    "wide": wide,
-    "deep": deep,
-    "often": often,
-    "random": at_random,
-}
+            names = files.pop()
+            named.append(names)
+        log.change_file(chance, names)
+    return log.commands
 
 
 def text_of(names):
     return "/".join(escaped(name) for name in names)
 
 
-def key(names):
-    return [name.encode() for name in names]
-
-
 def write(path, first, lines):
     with open(path, "w", encoding="ascii", newline="\n") as file:
         file.write(first + "\n")
-        for line in lines:
-            file.write(line + "\n")
+        file.writelines(line + "\n" for line in lines)
         file.write(f"end {len(lines)}\n")
 
 
+SHAPES = {"wide": wide, "tree": tree, "deep": deep}
+
+
 def main():
-    shape, lines, folder = sys.argv[1], int(sys.argv[2]), sys.argv[3]
-    maker = Maker(shape, lines)
-    SHAPES[shape](maker)
-    name = f"{folder}/{shape}-{lines}"
-    write(
-        f"{name}.log",
-        "treelog 1",
-        [f"{text_of(names)} {old} {new}" for names, old, new in maker.commands],
-    )
-    rows = sorted(maker.first, key=key)
-    write(f"{name}.snap", "treesnap 1", [f"{text_of(names)} {maker.first[names]}" for names in rows])
-    paths = [text_of(names) for names in maker.now]
-    maker.chance.shuffle(paths)
-    with open(f"{name}.paths", "w", encoding="ascii", newline="\n") as file:
-        file.write("\n".join(paths))
+    if len(sys.argv) not in (4, 5) or sys.argv[1] not in SHAPES:
+        sys.exit(__doc__.strip())
+    name, lines, folder = sys.argv[1], int(sys.argv[2]), sys.argv[3]
+    shape = Shape(random.Random(f"{name} {lines}"), lines)
+    SHAPES[name](shape)
+    path = f"{folder}/{name}-{lines}"
+    rows = sorted(shape.tree, key=lambda names: [name.encode() for name in names])
+    write(f"{path}.snap", "treesnap 1", [f"{text_of(names)} {shape.tree[names]}" for names in rows])
+    logs = range(1, int(sys.argv[4]) + 1) if len(sys.argv) == 5 else [None]
+    for number in logs:
+        commands = log_of(shape, random.Random(f"{name} {lines} {number}"))
+        ending = ".log" if number is None else f"-{number}.log"
+        write(path + ending, "treelog 1", [f"{text_of(names)} {old} {new}" for names, old, new in commands])
 
 
 if __name__ == "__main__":

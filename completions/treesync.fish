@@ -1,7 +1,9 @@
-# fish completion for treesync: the command words that are built, then file names.
+# fish completion for treesync: the commands that are built, then what their operands name.
+# Written by completions/make from the program's help.
 complete -c treesync -f
-complete -c treesync -n __fish_use_subcommand -a replay -d 'print a snapshot as it is after a log'
-complete -c treesync -n __fish_use_subcommand -a canon -d 'print the net set of a log'
-complete -c treesync -n __fish_use_subcommand -a help -d 'print the commands'
-complete -c treesync -n '__fish_seen_subcommand_from replay; and test (count (commandline -opc)) -le 3' -F
-complete -c treesync -n '__fish_seen_subcommand_from canon; and test (count (commandline -opc)) -le 2' -F
+complete -c treesync -n __fish_use_subcommand -a replay -d 'SNAP LOG'
+complete -c treesync -n __fish_use_subcommand -a canon -d 'LOG'
+complete -c treesync -n __fish_use_subcommand -a help -d 'the commands'
+complete -c treesync -n '__fish_seen_subcommand_from replay; and test (count (commandline -opc)) -ge 2 -a (count (commandline -opc)) -le 2' -F
+complete -c treesync -n '__fish_seen_subcommand_from replay; and test (count (commandline -opc)) -ge 3 -a (count (commandline -opc)) -le 3' -F
+complete -c treesync -n '__fish_seen_subcommand_from canon; and test (count (commandline -opc)) -ge 2 -a (count (commandline -opc)) -le 2' -F

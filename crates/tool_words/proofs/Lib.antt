@@ -1,3 +1,6 @@
 pub mod Walks
 pub mod OneOperand
 pub mod TwoOperands
+pub mod Places
+pub mod InPlace
+pub mod Table

@@ -140,7 +140,7 @@ some_kind k ks kinds e f = cc
 pub no_fault : (a b : App) (words : List Text) → a ≡ b → is_simple_and_free b ≡ true → (is_simple_and_free a ≡ true → fault_of a words ≡ []) → fault_of b words ≡ []
 no_fault a b words same free h = sym (ap (λ x. fault_of x words) same) ∙ h (ap is_simple_and_free same ∙ free)
 
--- a parse that gave an error, and not for want of memory, met a fault
+-- a parse that gave an error other than out of memory met a fault
 pub some_fault : (a b : App) (words : List Text) (e : Error) → a ≡ b → is_simple_and_free b ≡ true → (is_simple_and_free a ≡ true → HasKind (fault_of a words) e)
     → (kind_of e ≡ kind.OutOfMemory → ⊥) → fault_of b words ≡ [] → ⊥
 some_fault a b words e same free h other none =

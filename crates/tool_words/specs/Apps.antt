@@ -1,4 +1,4 @@
--- What clap is told of the commands of each shape.
+-- The apps of clap: what it knows of the commands of each shape.
 use Rattle.std.specs.Prelude.{true, codes}
 use Rattle.clap.specs.Walk.{Rule}
 use Rattle.clap.specs.Words.{App, new_app, new_rule, with_rule}

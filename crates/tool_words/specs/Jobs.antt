@@ -1,8 +1,10 @@
 -- Which words are which job.
-use Rattle.std.specs.Prelude.{List, Bool, false, Option, Some, None, codes, ◌∷◌, [], ◌||◌, if◌then◌else◌, option_map}
-use Rattle.std.specs.List.{list_all}
+use Rattle.std.specs.Prelude.{List, Bool, false, Option, Some, None, codes, ◌∷◌, [], ◌||◌, if◌then◌else◌, option_map, option_and_then}
 use Rattle.std.specs.Str.{bytes_eq}
-use Rattle.tool_words.specs.Words.{Text, is_plain, only_of, pair_of}
+use Rattle.tool_words.specs.Words.{Text, Operand, numbered, one_operand, two_operands}
+use Rattle.tool_words.specs.Commands.{commands, verb_in}
+use Rattle.tool_words.specs.declared.commands.Verb.{Verb}
+use Rattle.tool_words.specs.declared.commands.Verb.TheVariants as verb
 use Rattle.tool_words.specs.declared.job.Job.{Job}
 use Rattle.tool_words.specs.declared.job.Job.TheVariants.{Help, Replay, Canon}
 
@@ -11,18 +13,16 @@ abbrev pub is_help : List Text → Bool
 is_help (word ∷ []) = bytes_eq word (codes "help") || bytes_eq word (codes "--help")
 is_help _ = false
 
--- the job of a command's name and its operands, no more and no fewer
-abbrev pub operands_job : Text → List Text → Option Job
-operands_job name operands =
-    if bytes_eq name (codes "replay") then option_map (λ pair. Replay pair.0 pair.1) (pair_of operands)
-    else (if bytes_eq name (codes "canon") then option_map Canon (only_of operands)
-    else None)
+-- the job of a command's operands, no more and no fewer
+abbrev pub operands_job : Verb → List Operand → Option Job
+operands_job verb.Replay operands = option_map (λ pair. Replay pair.0 pair.1) (two_operands operands)
+operands_job verb.Canon operands = option_map Canon (one_operand operands)
 
 -- the job of a command line whose first word is the command
-abbrev pub command_job : List Text → Option Job
+abbrev pub command_job : List Operand → Option Job
 command_job [] = None
-command_job (name ∷ operands) = operands_job name operands
+command_job (name ∷ operands) = option_and_then (λ verb. operands_job verb operands) (verb_in commands name.text)
 
--- the job of the words: the help, or a command where each word is plain
+-- the job of the words: the help, or a command with its operands
 abbrev pub job_of : List Text → Option Job
-job_of words = if is_help words then Some Help else (if list_all is_plain words then command_job words else None)
+job_of words = if is_help words then Some Help else command_job (numbered 0 words)

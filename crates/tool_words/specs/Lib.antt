@@ -1,5 +1,7 @@
 pub mod Words
 pub mod Apps
+pub mod Commands
 pub mod Jobs
+pub mod Operands
 pub mod Trees
 pub mod Help

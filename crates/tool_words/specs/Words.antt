@@ -1,26 +1,63 @@
--- Words of a command line, and lists of operands.
-use Rattle.std.specs.Prelude.{List, ℕ, false, Option, Some, None, ◌∷◌, [], Bool, not, ◌==◌}
+-- The words of a command line, with their places, and lists of operands.
+use Rattle.std.specs.Prelude.{List, ℕ, suc, false, Option, Some, None, ◌∷◌, [], Bool, not, ◌==◌, drop, map, if◌then◌else◌, option_and_then, string_bytes}
+use Rattle.std.specs.declared.alloc.Global.{Global}
+use Rattle.std.specs.declared.string.String.{String}
+use Rattle.std.specs.List.{list_all}
 
 -- a word, as its bytes
 abbrev pub Text : Type 0
 Text = List ℕ
 
--- the word is not empty and has no dash in front
+-- the texts of words
+abbrev pub texts_of : List (String Global) → List Text
+texts_of words = map string_bytes words
+
+-- an operand: its text, and the place of the word that it stands in
+pub record Operand : Type 0 where
+  pub text : Text
+  pub place : ℕ
+
+-- the words with their places, which count on from this one
+abbrev pub numbered : ℕ → List Text → List Operand
+numbered place [] = []
+numbered place (word ∷ words) = record { text = word; place = place } ∷ numbered (suc place) words
+
+-- the words that follow the command's name
+abbrev pub after_name : List Text → List Operand
+after_name words = drop 1 (numbered 0 words)
+
+-- the operands of words
+abbrev pub operands_of : List (String Global) → List Operand
+operands_of words = after_name (texts_of words)
+
+-- the word is not empty and does not begin with a dash
 abbrev pub is_plain : Text → Bool
 is_plain [] = false
 is_plain (first ∷ rest) = not (first == 45)
 
--- the only operand
-abbrev pub only_of : List Text → Option Text
+-- the operands, where each is plain
+abbrev pub plain_of : List Operand → Option (List Operand)
+plain_of operands = if list_all (λ operand. is_plain operand.text) operands then Some operands else None
+
+-- the only one of a list
+abbrev pub only_of : {A : Type 0} → List A → Option A
 only_of (a ∷ []) = Some a
 only_of _ = None
 
--- the two operands
-abbrev pub pair_of : List Text → Option (Text × Text)
+-- the two of a list of two
+abbrev pub pair_of : {A : Type 0} → List A → Option (A × A)
 pair_of (a ∷ b ∷ []) = Some (a, b)
 pair_of _ = None
 
+-- the operand of a command that has one, and it plain
+abbrev pub one_operand : List Operand → Option Operand
+one_operand operands = option_and_then only_of (plain_of operands)
+
+-- the operands of a command that has two, and both plain
+abbrev pub two_operands : List Operand → Option (Operand × Operand)
+two_operands operands = option_and_then pair_of (plain_of operands)
+
 -- both values, where both are there
-abbrev pub both_of : Option Text → Option Text → Option (Text × Text)
+abbrev pub both_of : {A : Type 0} → Option A → Option A → Option (A × A)
 both_of (Some a) (Some b) = Some (a, b)
 both_of _ _ = None

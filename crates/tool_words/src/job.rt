@@ -1,57 +1,67 @@
-//! A word, a job made of words, and why words are no job.
+//! An operand, a job made of operands, and why there is no job.
 
-ghost use Rattle.std.specs.Prelude.{◌≡◌, List, ℕ, IfOk, string_bytes};
+ghost use Rattle.std.specs.Prelude.{◌≡◌};
 ghost use Rattle.tool_words.specs.declared.job.WordFault.TheVariants.{Memory};
 
-use std::alloc::{AllocError, Global};
+use std::alloc::AllocError;
 use std::marker::Model;
 use sync_path::NoMemory;
 use thiserror::Error;
 
-/// A word of the command line, seen as its text: the bytes of its UTF-8.
+/// An operand of a command: a text in one of the words, and the place of that word. It borrows the
+/// text from the words.
 #[derive(Debug, Drop)]
-pub struct Word {
-    text: String,
+pub struct Word<'a> {
+    text: &'a str,
+    place: usize,
 }
 
-impl Model for Word {
-    ghost Value = { List ℕ };
+impl<'a> Model for Word<'a> {
+    ghost use Rattle.tool_words.specs.Words.{Operand};
 
-    ghost view = { λ w. string_bytes w.text };
+    ghost Value = { Operand };
+
+    ghost view = { λ w. record { text = w.text.now; place = w.place } };
 }
 
-impl Word {
-    /// A word of this text. NoMemory is its only refusal.
-    pub(crate) fn copied(alloc: Global, text: &str) -> Result<Word, NoMemory>
-        ensures { IfOk result (λ word. word ≡ text.now) }
+impl<'a> Word<'a> {
+    /// The operand of this text in the word at this place.
+    pub(crate) fn new(text: &'a str, place: usize) -> Word<'a>
+        ensures { result ≡ record { text = text.entry.now; place = place } }
     {
-        let text = String::from_str(alloc, text)?;
-        Ok(Word { text })
+        Word { text, place }
     }
 
-    /// The word's text.
+    /// The operand's text.
     pub fn as_str(&self) -> &str
-        ensures { result.now ≡ self.now }
+        ensures { result.now ≡ self.now.text }
     {
-        self.text.as_str()
+        self.text
+    }
+
+    /// The place of the operand's word, from 0, which is the command's.
+    pub fn place(&self) -> usize
+        ensures { result ≡ self.now.place }
+    {
+        self.place
     }
 }
 
 /// What the words ask for: a command with the operands that it names, in the order of the words.
 #[derive(Debug, Drop)]
-pub enum Job {
+pub enum Job<'a> {
     /// Print the help.
     Help,
     /// Print the snapshot in the file `snap` as it is after the log in the file `log`.
-    Replay { snap: Word, log: Word },
+    Replay { snap: Word<'a>, log: Word<'a> },
     /// Print the net set of the log in the file `log`.
-    Canon { log: Word },
+    Canon { log: Word<'a> },
 }
 
-/// Why words give no job.
+/// Why there is no job.
 #[derive(Debug, Drop, Error)]
 pub enum WordFault {
-    /// The words are no job.
+    /// The arguments are invalid.
     #[error("words refused")]
     Refused,
     /// Memory ran out.

@@ -1,11 +1,11 @@
-//! Laws on the words and the texts.
+//! Laws on the words: each function's contract is a law, and its body is empty.
 
-ghost use Rattle.std.specs.Prelude.{◌≡◌};
-ghost use Rattle.tool_words.specs.Help.{help_text};
+ghost use Rattle.std.specs.Prelude.{List};
+ghost use Rattle.tool_words.specs.Words.{Text};
+ghost use Rattle.tool_words.specs.Jobs.{job_of};
+ghost use Rattle.tool_words.specs.Operands.{AreInPlace, operands_in};
 
-use crate::texts::HELP;
-
-/// The constant of the help is the text that the definitions say.
-pub fn help_is_its_text()
-    ensures { HELP.now ≡ help_text }
+/// Each operand of a job is the word at its place.
+pub fn operands_are_words()
+    ensures { (words : List Text) → AreInPlace words (operands_in (job_of words)) }
 {}

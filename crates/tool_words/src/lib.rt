@@ -1,9 +1,11 @@
 //! The words of a command line: the job that they ask for, and the fixed texts of the program.
 //!
-//! `specs/Jobs.antt` says which words are which job, and `specs/Trees.antt` which of them name
-//! folders; `docs/FORMATS.md` tells both in words, and lists the texts.
+//! `specs/Commands.antt` lists the commands that are built, `specs/Jobs.antt` says which words are
+//! which job, and `specs/Trees.antt` which of them name folders; `docs/FORMATS.md` says both in
+//! words, and lists the texts.
 #![tactic(auto)]
 
+mod commands;
 mod job;
 pub mod laws;
 mod operands;
@@ -11,6 +13,7 @@ mod read;
 pub mod texts;
 mod trees;
 
+pub use self::commands::help;
 pub use self::job::{Job, Word, WordFault};
 pub use self::read::read_words;
 pub use self::trees::{first_tree_word, trees_wanted};

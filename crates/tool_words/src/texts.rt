@@ -1,13 +1,18 @@
-//! The fixed texts of the program: the help, and the parts of the lines on the error stream.
+//! The fixed texts of the program: those of the help that are not in the table of commands, and the
+//! parts of the lines on the error stream.
 //!
 //! A line on the error stream is put together from these parts, the words and numbers:
 //! `PROGRAM`, then a file's word and `COLON` or `LINE` with a number and `COLON` where the refusal
 //! names them, then the text of the refusal and `LINE_END`.
 
-/// What the job of the help prints.
-pub const HELP: &str = "usage: treesync COMMAND WORDS\n  replay SNAP LOG\n  canon LOG\n";
+/// The first line of the help.
+pub const USAGE: &str = "usage: treesync COMMAND WORDS\n";
+/// What a command's line of the help begins with.
+pub const INDENT: &str = "  ";
+/// Between a command's name and its operands in the help.
+pub const BLANK: &str = " ";
 
-/// The front of each line.
+/// What each line begins with.
 pub const PROGRAM: &str = "treesync: ";
 /// Between a word, or a line's number, and what follows it.
 pub const COLON: &str = ": ";
@@ -16,7 +21,7 @@ pub const LINE: &str = ": line ";
 /// The end of each line.
 pub const LINE_END: &str = "\n";
 
-/// The words are no job (status 2).
+/// The arguments are invalid (status 2).
 pub const WORDS_REFUSED: &str = "words refused";
 /// A file could not be read (status 3).
 pub const READ_FAILED: &str = "read failed";

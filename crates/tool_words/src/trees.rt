@@ -1,15 +1,16 @@
 //! The words that name folders.
 
-ghost use Rattle.std.specs.Prelude.{◌≡◌, ◌+◌, map, string_bytes, length};
+ghost use Rattle.std.specs.Prelude.{◌≡◌, ◌+◌, length};
+ghost use Rattle.tool_words.specs.Words.{texts_of};
 ghost use Rattle.tool_words.specs.Trees.{folder_places, first_place};
 
 use std::ops::Range;
 
-/// The places of the words that name folders, which stand one behind another. No command that is
-/// built works on a folder.
+/// The places of the words that name folders, which follow one another. No command that is built
+/// works on a folder.
 fn folder_words(words: &[String]) -> Range<usize>
-    ensures start { result.start ≡ first_place (folder_places (map string_bytes words.now)) }
-    ensures end { result.end ≡ result.start + length (folder_places (map string_bytes words.now)) }
+    ensures start { result.start ≡ first_place (folder_places (texts_of words.now)) }
+    ensures end { result.end ≡ result.start + length (folder_places (texts_of words.now)) }
 {
     0..0
 }
@@ -17,7 +18,7 @@ fn folder_words(words: &[String]) -> Range<usize>
 /// How many trees the job of the words works on, one for each word that names a folder; 0 where
 /// the words are refused. It takes no memory.
 pub fn trees_wanted(words: &[String]) -> usize
-    ensures { result ≡ length (folder_places (map string_bytes words.now)) }
+    ensures { result ≡ length (folder_places (texts_of words.now)) }
 {
     let folders = folder_words(words);
     folders.end - folders.start
@@ -26,7 +27,7 @@ pub fn trees_wanted(words: &[String]) -> usize
 /// The place, from 0, of the first word that names a folder; 0 where no tree is wanted. It takes
 /// no memory.
 pub fn first_tree_word(words: &[String]) -> usize
-    ensures { result ≡ first_place (folder_places (map string_bytes words.now)) }
+    ensures { result ≡ first_place (folder_places (texts_of words.now)) }
 {
     folder_words(words).start
 }

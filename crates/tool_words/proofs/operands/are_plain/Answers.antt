@@ -2,7 +2,7 @@ use Rattle.std.proofs.Common.{rules, arith, ◌≡◌, ◌∙◌, sym, ap, false
 use Rattle.std.specs.List.{list_all}
 use Rattle.std.proofs.lemmas.List.Folds.{list_all-map, list_all_at}
 use Rattle.tool_words.specs.Words.{is_plain}
-use Rattle.tool_words.proofs.read.are_plain.Goals as goal
+use Rattle.tool_words.proofs.operands.are_plain.Goals as goal
 
 pub returns-then-not-is_plain_word : goal.returns-then-not-is_plain_word
 returns-then-not-is_plain_word c =

@@ -1,0 +1,29 @@
+-- The commands that are built.
+use Rattle.std.specs.Prelude.{List, Option, Some, None, codes, ◌∷◌, [], if◌then◌else◌}
+use Rattle.std.specs.Str.{bytes_eq}
+use Rattle.tool_words.specs.Words.{Text}
+use Rattle.tool_words.specs.declared.commands.CommandShape.{CommandShape}
+use Rattle.tool_words.specs.declared.commands.Verb.{Verb}
+use Rattle.tool_words.specs.declared.commands.Verb.TheVariants.{Replay, Canon}
+
+-- what a command does, its name, and its operands as the help shows them
+pub record Shape : Type 0 where
+  pub verb : Verb
+  pub name : Text
+  pub operands : Text
+
+-- a line of the program's table
+abbrev pub shape_of : CommandShape → Shape
+shape_of line = record { verb = line.verb; name = line.name.now; operands = line.operands.now }
+
+-- the commands that are built, in the order of the help
+abbrev pub commands : List Shape
+commands =
+    record { verb = Replay; name = codes "replay"; operands = codes "SNAP LOG" }
+    ∷ record { verb = Canon; name = codes "canon"; operands = codes "LOG" }
+    ∷ []
+
+-- what the first of the commands with this name does
+abbrev pub verb_in : List Shape → Text → Option Verb
+verb_in [] name = None
+verb_in (shape ∷ shapes) name = if bytes_eq shape.name name then Some shape.verb else verb_in shapes name
