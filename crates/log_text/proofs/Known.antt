@@ -1,6 +1,6 @@
 -- What is known of reader and form after a line, a piece and the end of the text.
-use Rattle.std.proofs.lemmas.Bool.{both_ways, cases_Bool}
-use Rattle.std.proofs.Common.{Bool, Option, Some, None, ◌||◌, true, false, ◌≡◌, ℕ, ◌<◌, ◌⊎◌, List, [], ◌∷◌, ◌++◌, length, MatchResult, IsErr, sym, refl, ap, ◌∙◌, subst, arith, Ok, Err, Result, inl, inr, ⊎_elim, append_assoc, append-nil}
+use Rattle.std.proofs.lemmas.Bool.{cases_Bool}
+use Rattle.std.proofs.Common.{Option, Some, None, ◌||◌, true, false, ◌≡◌, ℕ, ◌<◌, ◌⊎◌, List, [], ◌∷◌, ◌++◌, length, MatchResult, IsErr, sym, refl, ap, ◌∙◌, subst, arith, Ok, Err, Result, inl, inr, ⊎_elim, append_assoc, append-nil}
 use Rattle.sync_path.specs.Paths.{parts}
 use Rattle.log_text.specs.declared.faults.TextFault.{TextFault}
 use Rattle.log_text.specs.declared.faults.TextKind.TheVariants as kind
@@ -11,7 +11,7 @@ use Rattle.log_text.specs.declared.pieces.Stage.TheVariants as stage
 use Rattle.log_text.specs.declared.pieces.LineReader.{LineReader}
 use Rattle.log_text.specs.Frame.{Judge, fault_at, header_fault, framed_of, complete_items, head_of}
 use Rattle.log_text.specs.Reading.{FailsText}
-use Rattle.log_text.specs.Pieces.{HasOpened, IsCutOff, is_inside, head_if, refused, after_line, ReadsLine, IsStateOf, Knows, IsBetween, Feeds, Keeps, Finishes, EndsOpen, IsGoing, IsShown, IsSettled, IsExact, line_feeds}
+use Rattle.log_text.specs.Pieces.{HasOpened, IsCutOff, is_inside, refused, after_line, ReadsLine, IsStateOf, Knows, IsBetween, Feeds, Keeps, Finishes, EndsOpen, IsGoing, IsShown, IsSettled, IsExact, line_feeds}
 use Rattle.log_text.proofs.Fields.{IsClear}
 use Rattle.log_text.proofs.States.{or_false, opened_on, opened_kept, opened_after_end, opened_refused, head_later, no_head_now, state_on, state_kept, state_after_end, state_refused, complete_now, complete_later, end_at_start, end_inside, end_right, read_now}
 

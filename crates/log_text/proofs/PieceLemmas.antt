@@ -1,20 +1,19 @@
 -- Texts in pieces: what grows with the text, and what a caller that reads a log in pieces needs.
 use Rattle.std.proofs.Common.{Bool, true, false, ◌≡◌, ℕ, ◌<◌, List, [], ◌∷◌, ◌++◌, length, sym, refl, ap, ◌∙◌, subst, arith, nat_eq, ⊎_elim, Some, None, Option, Ok, Err, Result, append_assoc, append-nil}
 use Rattle.std.proofs.lemmas.Bool.{cases_Bool}
-use Rattle.std.proofs.lemmas.Bool.Decides.{nat_tests, Decides-eqb}
+use Rattle.std.proofs.lemmas.Bool.Decides.{Decides-eqb}
 use Rattle.sync_path.specs.Paths.{parts}
 use Rattle.sync_command.specs.declared.values.Version.{Version}
 use Rattle.sync_command.specs.declared.values.Version.TheVariants.{One}
 use Rattle.sync_command.specs.Changes.{Change}
 use Rattle.log_text.specs.declared.faults.TextFault.{TextFault}
 use Rattle.log_text.specs.declared.faults.TextKind.{TextKind}
-use Rattle.log_text.specs.declared.faults.TextKind.TheVariants as kind
 use Rattle.log_text.specs.declared.faults.LogFault.{LogFault}
 use Rattle.log_text.specs.declared.faults.LogFault.TheVariants as fault
 use Rattle.log_text.specs.declared.pieces.Stage.{Stage}
 use Rattle.log_text.specs.declared.pieces.Stage.TheVariants as stage
 use Rattle.log_text.specs.declared.reader.LogReader.{LogReader}
-use Rattle.log_text.specs.Frame.{Judge, at_line, body_of, unless, end_number, end_fault, framed_of, with_head, after_first, items_at, body_items, complete_items, items_after_first}
+use Rattle.log_text.specs.Frame.{Judge, at_line, body_of, end_number, end_fault, framed_of, with_head, items_at, body_items, complete_items, items_after_first}
 use Rattle.log_text.specs.Versions.{version_of}
 use Rattle.log_text.specs.Logs.{log_of, log_first, judge_change}
 use Rattle.log_text.specs.Reading.{FailsText}

@@ -1,6 +1,5 @@
 -- A log in pieces.
 use Rattle.std.proofs.Common.{Bool, true, false, refl, ◌≡◌, ℕ, List, [], ◌∷◌, ◌++◌, length, sym, ap, ◌∙◌, Some, None, Option, Ok, Err, Result, MatchOption, MatchResult, append_assoc, append-nil}
-use Rattle.sync_path.specs.Paths.{parts}
 use Rattle.sync_command.specs.declared.values.Version.{Version}
 use Rattle.sync_command.specs.declared.values.Version.TheVariants.{One}
 use Rattle.sync_command.specs.Changes.{Change}

@@ -1,6 +1,6 @@
 -- A text that comes in pieces: what is known of it after the bytes so far, whatever follows.
 -- It holds for every form: one is its first lines, its items and its judge.
-use Rattle.std.specs.Prelude.{MatchBool, IsErr, ◌≡◌, ◌≤◌, ◌<◌, ℕ, ◌+◌, Bool, true, false, ◌==◌, ◌||◌, nat_eq, ◌⊎◌, List, [], ◌∷◌, ◌++◌, length, count_by, decimal, if◌then◌else◌, Option, None, Some, Result, Ok, Err}
+use Rattle.std.specs.Prelude.{MatchBool, IsErr, ◌≡◌, ◌≤◌, ◌<◌, ℕ, ◌+◌, Bool, true, false, ◌==◌, nat_eq, ◌⊎◌, List, [], ◌∷◌, ◌++◌, length, count_by, decimal, if◌then◌else◌, Option, None, Some, Result, Ok, Err}
 use Rattle.std.specs.List.{AllByRecursion}
 use Rattle.std.specs.Str.{bytes_eq}
 use Rattle.sync_path.specs.Paths.{parts}

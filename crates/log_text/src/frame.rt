@@ -79,7 +79,8 @@ pub fn fields_of(line: &[u8]) -> Fields<'_>
     }
 }
 
-/// The fault of the line after `count` lines of the form: lines count from 1, and the first line is line 1.
+/// The fault of the line after `count` lines of the form: lines count from 1, and the first line is
+/// line 1.
 pub fn fault_after(count: usize, kind: TextKind) -> TextFault
     requires { count ≤ MAX_ITEMS + 1 }
     ensures { result ≡ fault_at count kind }
@@ -141,7 +142,8 @@ pub fn header_fault() -> LogFault
     })
 }
 
-/// Appends the end line after `count` lines of the form. Where memory runs out, `out` begins with what it held.
+/// Appends the end line after `count` lines of the form. Where memory runs out, `out` begins with what
+/// it held.
 #[tactic(auto, using(sync_path::proofs::CallerLemmas::kept_on, sync_path::proofs::CallerLemmas::kept_more))]
 pub fn print_end(out: &mut Vec<u8>, count: u64) -> Result<(), NoMemory>
     ensures ok { OnOk result (out.new.items ≡ out.old.items ++ ended (end_line count)) }

@@ -1,6 +1,7 @@
 //! The texts of logs and of snapshots: read to their first fault, at once or in pieces, and printed.
 //!
-//! `docs/FORMATS.md` describes the forms and the order of the faults; `specs/Frame.antt` defines what they share.
+//! `docs/FORMATS.md` describes the forms and the order of the faults; `specs/Frame.antt` defines what
+//! they share.
 #![tactic(auto)]
 
 mod commands;

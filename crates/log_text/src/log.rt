@@ -77,7 +77,8 @@ fn read_command(
     old: &[u8],
     new_value: &[u8],
 ) -> Result<Command, LineFault>
-    ensures gives { GivesLine result (change_of version count (path.now ∷ old.now ∷ new_value.now ∷ [])) }
+    ensures gives { GivesLine result
+        (change_of version count (path.now ∷ old.now ∷ new_value.now ∷ [])) }
     ensures few { OnOk result (count < MAX_ITEMS) }
 {
     if count >= MAX_ITEMS {
@@ -95,7 +96,8 @@ fn command_of(
     new_value: &[u8],
 ) -> Result<Command, LineFault>
     ensures { GivesLine result
-        (change_from (path_of path.now) (value_of version old.now) (value_of version new_value.now)) }
+        (change_from (path_of path.now)
+        (value_of version old.now) (value_of version new_value.now)) }
 {
     let path = read_path(alloc, path)?;
     let old = read_value(alloc, version, old)?;
@@ -133,7 +135,8 @@ pub fn print_log(out: &mut Vec<u8>, version: Version, commands: &[Command]) -> R
 /// Appends the lines of the commands.
 #[tactic(auto, using(sync_path::proofs::CallerLemmas::kept_on, sync_path::proofs::CallerLemmas::kept_more))]
 fn print_commands(out: &mut Vec<u8>, commands: &[Command]) -> Result<(), NoMemory>
-    ensures ok { OnOk result (out.new.items ≡ out.old.items ++ flat_map (λ c. ended (change_text c)) commands.now) }
+    ensures ok { OnOk result
+        (out.new.items ≡ out.old.items ++ flat_map (λ c. ended (change_text c)) commands.now) }
     ensures err { OnErr result (take (length out.old.items) out.new.items ≡ out.old.items) }
 {
     for command in commands {

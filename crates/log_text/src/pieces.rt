@@ -33,13 +33,15 @@ pub trait Form {
 
     /// Whether a line is a first one of the form, which then goes by it.
     fn opens(&mut self, line: &[u8]) -> bool
-        ensures { (past : Self.Past) (xs : Self.Head × List Self.Item) → Self.holds self.old past xs →
+        ensures { (past : Self.Past) (xs : Self.Head × List Self.Item) →
+            Self.holds self.old past xs →
             Opens Self.holds self.new past xs (Self.first line.now) result };
 
     /// How many items there are.
     fn count(&self) -> usize
         ensures few { result ≤ MAX_ITEMS }
-        ensures count { (past : Self.Past) (xs : Self.Head × List Self.Item) → Self.holds self.now past xs →
+        ensures count { (past : Self.Past) (xs : Self.Head × List Self.Item) →
+            Self.holds self.now past xs →
             result ≡ length xs.1 };
 
     /// Judges a line that is no end line, and keeps its item.
@@ -113,7 +115,8 @@ fn after_kept_line<F: Form>(
     tail: &[u8],
 ) -> Stage
     ensures { (past : F.Past) (xs : F.Head × List F.Item) → F.holds form.old past xs →
-        ReadsLine F.first F.judge F.holds stage form.new past xs (kept.old.items ++ tail.now) result }
+        ReadsLine F.first F.judge F.holds stage form.new past xs
+        (kept.old.items ++ tail.now) result }
 {
     if kept.is_empty() {
         return after_line(alloc, stage, form, tail);
@@ -169,8 +172,10 @@ impl LineReader {
         ensures knows { (past : F.Past) (text : List ℕ) →
             Knows F.first F.judge F.holds self.old form.old past text →
             Feeds F.first F.judge F.holds self.new form.new past text piece.now result }
-        ensures stage { MatchResult result (λ _. IsGoing self.new.stage) (λ f. self.new.stage ≡ Stage.Refused f) }
-        ensures again { (f : _) → self.old.stage ≡ Stage.Refused f → (self.new ≡ self.old) × (form.new ≡ form.old) }
+        ensures stage { MatchResult result (λ _. IsGoing self.new.stage)
+            (λ f. self.new.stage ≡ Stage.Refused f) }
+        ensures again { (f : _) → self.old.stage ≡ Stage.Refused f →
+            (self.new ≡ self.old) × (form.new ≡ form.old) }
     {
         if let Stage::Refused(fault) = self.stage {
             return Err(fault);
@@ -195,7 +200,8 @@ impl LineReader {
             (self.old.line.items ++ tail.now) self.new.stage }
         ensures line { self.new.line.items ≡ [] }
         ensures opened { self.new.opened ≡ (self.old.opened || is_inside self.new.stage) }
-        ensures stage { MatchResult result (λ _. IsGoing self.new.stage) (λ f. self.new.stage ≡ Stage.Refused f) }
+        ensures stage { MatchResult result (λ _. IsGoing self.new.stage)
+            (λ f. self.new.stage ≡ Stage.Refused f) }
     {
         self.stage = after_kept_line(self.alloc, self.stage, form, &mut self.line, tail);
         self.line.clear();
@@ -212,7 +218,8 @@ impl LineReader {
             Keeps self.old self.new (length xs.1) unended.now result }
         ensures opened { self.new.opened ≡ self.old.opened }
         ensures stage { IsGoing self.old.stage →
-            MatchResult result (λ _. IsGoing self.new.stage) (λ f. self.new.stage ≡ Stage.Refused f) }
+            MatchResult result (λ _. IsGoing self.new.stage)
+            (λ f. self.new.stage ≡ Stage.Refused f) }
     {
         if unended.is_empty() {
             return Ok(());
@@ -247,7 +254,8 @@ impl LineReader {
         }
     }
 
-    /// The text ends here, and may have lost its end: whether the right end line was there. Takes no memory.
+    /// The text ends here, and may have lost its end: whether the right end line was there. Takes no
+    /// memory.
     pub fn finish_open<F: Form>(self, form: &F) -> Result<bool, LogFault>
         ensures { (past : F.Past) (text : List ℕ) →
             Knows F.first F.judge F.holds self form.now past text →

@@ -51,7 +51,8 @@ impl CommandQueue {
     pub fn take(&mut self) -> Option<Command>
         ensures version { self.new.version ≡ self.old.version }
         ensures count { self.new.count ≡ self.old.count }
-        ensures waiting { MatchOption result ((self.old.waiting.items ≡ []) × (self.new.waiting.items ≡ []))
+        ensures waiting { MatchOption result
+            ((self.old.waiting.items ≡ []) × (self.new.waiting.items ≡ []))
             (λ c. self.old.waiting.items ≡ c ∷ self.new.waiting.items) }
     {
         self.waiting.pop_front()

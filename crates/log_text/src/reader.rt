@@ -47,7 +47,8 @@ impl LogReader {
         ensures exact { (text : List ℕ) (taken : List Change) →
             HasRead self.old text taken → IsExactLog (text ++ piece.now) result }
         ensures goes_on { MatchResult result (λ _. GoesOn self.new) (λ f. IsRefused self.new f) }
-        ensures again { (f : LogFault) → IsRefused self.old f → (result ≡ Err f) × (self.new ≡ self.old) }
+        ensures again { (f : LogFault) → IsRefused self.old f →
+            (result ≡ Err f) × (self.new ≡ self.old) }
     {
         self.lines.feed(&mut self.queue, piece)
     }

@@ -152,7 +152,8 @@ fn has_parent(
 
 /// Whether the directory that was kept is the path's parent.
 fn is_parent(directory: &Option<Path>, path: &Path) -> bool
-    ensures { MatchOption directory.now (result ≡ false) (λ n. IsTrue result ↔ (parent path.now ≡ Some n)) }
+    ensures { MatchOption directory.now (result ≡ false)
+        (λ n. IsTrue result ↔ (parent path.now ≡ Some n)) }
 {
     match directory {
         None => false,
@@ -202,7 +203,8 @@ pub fn print_snapshot(out: &mut Vec<u8>, version: Version, rows: &[Row]) -> Resu
 /// Appends the lines of the rows.
 #[tactic(auto, using(sync_path::proofs::CallerLemmas::kept_on, sync_path::proofs::CallerLemmas::kept_more))]
 fn print_rows(out: &mut Vec<u8>, rows: &[Row]) -> Result<(), NoMemory>
-    ensures ok { OnOk result (out.new.items ≡ out.old.items ++ flat_map (λ row. ended (row_text row)) rows.now) }
+    ensures ok { OnOk result
+        (out.new.items ≡ out.old.items ++ flat_map (λ row. ended (row_text row)) rows.now) }
     ensures err { OnErr result (take (length out.old.items) out.new.items ≡ out.old.items) }
 {
     for row in rows {

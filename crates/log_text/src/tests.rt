@@ -431,7 +431,8 @@ fn changed(alloc: Global, text: &str, place: usize) -> Result<Vec<u8>, AllocErro
     Ok(bytes)
 }
 
-/// Whether a text is that of the commands which are read from it, or else the line at fault is one of its first `lines`.
+/// Whether a text is that of the commands which are read from it, or else the line at fault is one of
+/// its first `lines`.
 fn is_read_or_named(alloc: Global, text: &[u8], lines: u64) -> Result<bool, Fail> {
     match read_log(alloc, text) {
         Ok((version, commands)) => {

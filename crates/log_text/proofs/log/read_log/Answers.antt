@@ -1,4 +1,4 @@
-use Rattle.std.proofs.Common.{[], ◌∙◌, ap, Ok, sym}
+use Rattle.std.proofs.Common.{◌∙◌, ap, Ok, sym}
 use Rattle.std.proofs.lemmas.Result.{err_from_is_err_and}
 use Rattle.sync_command.specs.declared.values.Version.TheVariants.{One}
 use Rattle.log_text.specs.Logs.{log_of}

@@ -1,6 +1,5 @@
-use Rattle.std.proofs.Common.{◌≡◌, ◌+◌, ◌-◌, ◌<◌, ◌∙◌, ap, sym, length, take, arith, nat_eq, get_or, false}
+use Rattle.std.proofs.Common.{◌≡◌, ◌+◌, ◌-◌, ◌<◌, ◌∙◌, sym, length, arith, nat_eq, get_or, false}
 use Rattle.std.proofs.lemmas.Bool.Decides.{nat_tests}
-use Rattle.log_text.specs.OpenLogs.{ended_part}
 use Rattle.log_text.proofs.OpenLogLemmas.{last_ended, last_dropped, nothing_ended}
 use Rattle.log_text.proofs.open_log.ended_part.Goals as goal
 
