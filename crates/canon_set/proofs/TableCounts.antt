@@ -1,5 +1,5 @@
 -- How the counts of a table follow as nodes come in, and as they hold something or no longer do.
-use Rattle.std.proofs.Common.{◌≡◌, ◌<◌, ◌≤◌, ◌+◌, ◌-◌, ℕ, length, map, Bool, true, false, not, List, Option, Some, None, unwrap_or, cond, refl, sym, ap, subst, ◌∙◌, arith}
+use Rattle.std.proofs.Common.{◌≡◌, ◌+◌, ◌-◌, ℕ, length, map, Bool, true, false, not, List, Option, Some, None, unwrap_or, cond, refl, sym, ap, subst, ◌∙◌, arith}
 use mathlib.Core.Path.{fun_ext}
 use mathlib.Core.Bool.{beq}
 use mir.Val.{bool_byte}

@@ -1,15 +1,15 @@
 -- What the two maps of a table say of a node, and how that changes with a write.
-use Rattle.std.proofs.Common.{◌≡◌, ◌<◌, ◌≤◌, ◌+◌, ◌-◌, ◌++◌, ℕ, zero, suc, nat_lt, length, map, get_or, slice_get, slice_set, position, Bool, true, false, not, List, [], ◌∷◌, Option, Some, None, cond, refl, sym, ap, subst, ◌∙◌, arith}
-use Rattle.std.specs.Prelude.{if◌then◌else◌, is_some}
+use Rattle.std.proofs.Common.{◌≡◌, ◌+◌, ◌++◌, ℕ, zero, suc, nat_lt, length, map, get_or, slice_get, slice_set, position, Bool, true, false, not, List, [], ◌∷◌, Option, Some, None, cond, refl, sym, ap, subst, ◌∙◌, arith}
+use Rattle.std.specs.Prelude.{if◌then◌else◌}
 use Rattle.std.specs.Option.{option_map}
 use Rattle.std.specs.List.{position_or_len}
 use Rattle.std.specs.Map.{keys_of}
 use Rattle.std.specs.Ordering.{is_eq}
-use Rattle.std.specs.HashMap.{get, keys, IsUnique}
-use Rattle.std.proofs.lemmas.Option.{slice_get-map, get_or_from_slice_get, slice_get_within}
+use Rattle.std.specs.HashMap.{get, IsUnique}
+use Rattle.std.proofs.lemmas.Option.{slice_get-map, get_or_from_slice_get}
 use Rattle.std.proofs.lemmas.Map.Entries.{hash_map_get_place}
 use Rattle.std.specs.Map.{lookup}
-use Rattle.indexmap.specs.IndexMap.{IndexMap, set_value_at, with_value_at, insert_entry, Updates}
+use Rattle.indexmap.specs.IndexMap.{set_value_at, with_value_at, insert_entry}
 use Rattle.indexmap.proofs.CallerLemmas.{updates-with_value_at, insert_entry-new}
 use Rattle.sync_path.specs.Paths.{Node, path_cmp, same_path}
 use Rattle.sync_command.specs.declared.values.Value.{Value}
@@ -17,9 +17,7 @@ use Rattle.sync_path.specs.Order.{path_eq, path_eq_equiv}
 use Rattle.sync_path.proofs.CallerLemmas.{same_path_is}
 use Rattle.canon_set.specs.declared.touches.Touch.{Touch}
 use Rattle.canon_set.specs.declared.table.Touched.{Touched}
-use Rattle.canon_set.specs.declared.table.Entry.{Entry}
 use Rattle.canon_set.specs.declared.table.Table.{Table}
-use Rattle.canon_set.specs.Entries.{children_in}
 use Rattle.canon_set.specs.Tables.{place_of, touch_from, touches_in, children_of, entry_from, entry_at}
 use Rattle.canon_set.specs.Touches.{renewed}
 use Rattle.canon_set.specs.Tables.{Renews}

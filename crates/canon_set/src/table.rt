@@ -138,7 +138,7 @@ impl Table {
 
     /// A node comes into the table: its parent counts it where it holds something. The nodes above it that are not in
     /// the table come in too; each of them holds something, since something is under it. There is room for all of them.
-    /// After want of memory the table knows what it knew. The path is shrunk on the way.
+    /// Where memory runs out the table knows what it knew. The path is shrunk on the way.
     fn raise(&mut self, alloc: Global, way: &mut Path, is_full: bool) -> Result<(), NoMemory>
         requires unknown { entry_at self.old way.old ≡ None }
         requires closed { IsClosed (entry_at self.old) }
@@ -226,7 +226,7 @@ impl Table {
     }
 
     /// The first command of an untouched node above touched ones, so of one that held a directory: it becomes one of
-    /// the touched nodes, and keeps its count. After want of memory the table knows what it knew. The path is the
+    /// the touched nodes, and keeps its count. Where memory runs out the table knows what it knew. The path is the
     /// node's, and is shrunk on the way.
     pub(crate) fn lift(&mut self, way: &mut Path, command: Command) -> Result<(), NoMemory>
         requires way { way.old ≡ command.node }

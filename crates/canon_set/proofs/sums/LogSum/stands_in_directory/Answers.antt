@@ -1,5 +1,4 @@
 use Rattle.std.proofs.Common.{refl, sym, ap, ◌∙◌}
-use Rattle.sync_path.specs.Paths.{parent}
 use Rattle.canon_set.specs.Touches.{lent_touch}
 use Rattle.canon_set.specs.Entries.{place_in}
 use Rattle.canon_set.proofs.Tables.{place_low, lent_at, not_placed}

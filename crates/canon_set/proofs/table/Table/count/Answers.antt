@@ -1,11 +1,9 @@
-use Rattle.std.proofs.Common.{◌≡◌, ◌<◌, ◌≤◌, ◌+◌, ◌-◌, ◌^◌, ℕ, slice_get, Some, None, sym, ap, subst, ◌∙◌, arith, refl}
+use Rattle.std.proofs.Common.{◌≡◌, ◌<◌, ◌≤◌, ◌+◌, ◌-◌, ◌^◌, ℕ, Some, None, sym, ap, subst, ◌∙◌, arith, refl}
 use Rattle.std.specs.Prelude.{IsSome}
 use Rattle.std.specs.HashMap.{get}
 use Rattle.sync_path.specs.Order.{path_eq}
 use Rattle.canon_set.specs.declared.table.Touched.{Touched}
-use Rattle.canon_set.specs.declared.table.Entry.{Entry}
 use Rattle.canon_set.specs.Entries.{children_in}
-use Rattle.canon_set.specs.Tables.{place_of, touches_in, entry_at}
 use Rattle.canon_set.proofs.TableMaps.{place_index, known_touched, known_above, known_not, read_touched, count_touched, put_above, touches_kept}
 use Rattle.canon_set.proofs.table.Table.count.Goals as goal
 

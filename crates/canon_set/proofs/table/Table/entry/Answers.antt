@@ -1,4 +1,4 @@
-use Rattle.std.proofs.Common.{◌≡◌, sym, ◌∙◌}
+use Rattle.std.proofs.Common.{sym, ◌∙◌}
 use Rattle.canon_set.proofs.TableMaps.{place_index, known_touched, known_above, known_not}
 use Rattle.canon_set.proofs.table.Table.entry.Goals as goal
 

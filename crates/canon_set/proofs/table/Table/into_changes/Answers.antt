@@ -1,8 +1,3 @@
-use Rattle.std.proofs.Common.{◌≡◌, ◌++◌, [], List, map, sym, ap, ◌∙◌}
-use Rattle.std.specs.List.{filter}
-use Rattle.sync_command.specs.Changes.{Change, is_change}
-use Rattle.canon_set.specs.Touches.{change_of}
-use Rattle.canon_set.specs.Tables.{touch_from}
 use Rattle.canon_set.proofs.TableLists.{changes_first, changes_turn, changes_end}
 use Rattle.std.proofs.lemmas.Map.Iter.{rest_more, rest_all}
 use Rattle.canon_set.proofs.table.Table.into_changes.Goals as goal

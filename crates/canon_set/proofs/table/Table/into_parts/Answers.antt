@@ -1,7 +1,6 @@
-use Rattle.std.proofs.Common.{◌≡◌, ℕ, List, map, not, refl, sym, ap, ◌∙◌}
+use Rattle.std.proofs.Common.{not, sym, ap, ◌∙◌}
 use Rattle.std.specs.Prelude.{is_none}
 use Rattle.std.proofs.lemmas.Map.Iter.{iter_end}
-use Rattle.sync_path.specs.Paths.{Node}
 use Rattle.canon_set.specs.Tables.{touch_from, is_untouched}
 use Rattle.canon_set.proofs.TableMaps.{place_index}
 use Rattle.canon_set.proofs.TableLists.{list_first, list_turn, list_end, filter_more, filter_same, filter_all}

@@ -1,7 +1,7 @@
-use Rattle.std.proofs.Common.{None, ℕ, not, refl, ap, subst, ◌∙◌, cond, unwrap_or, ◌≡◌}
+use Rattle.std.proofs.Common.{None, not, refl, ap, ◌∙◌, cond, unwrap_or}
 use Rattle.std.specs.Ordering.{is_eq}
 use Rattle.std.specs.HashMap.{get}
-use Rattle.sync_path.specs.Paths.{Node, path_cmp}
+use Rattle.sync_path.specs.Paths.{path_cmp}
 use Rattle.sync_path.specs.Order.{path_eq}
 use Rattle.sync_command.specs.Values.{is_empty}
 use Rattle.canon_set.proofs.TableCounts.{lifts}

@@ -1,12 +1,9 @@
-use Rattle.std.proofs.Common.{◌≡◌, ◌||◌, ◌++◌, ◌∷◌, [], List, None, Some, cond, not, length, refl, ap, ◌∙◌}
+use Rattle.std.proofs.Common.{◌||◌, ◌++◌, ◌∷◌, [], Some, cond, not, length, refl, ap, ◌∙◌}
 use Rattle.std.specs.Ordering.{is_eq}
 use Rattle.sync_path.specs.Paths.{path_cmp}
 use Rattle.sync_command.specs.Values.{is_dir}
-use Rattle.canon_set.specs.declared.touches.Touch.{Touch}
 use Rattle.canon_set.specs.declared.table.Touched.{Touched}
-use Rattle.canon_set.specs.declared.table.Table.{Table}
-use Rattle.canon_set.specs.Touches.{first_touch_of}
-use Rattle.canon_set.specs.Tables.{place_of, touch_from, touches_in, entry_at}
+use Rattle.canon_set.specs.Tables.{place_of, touches_in, entry_at}
 use Rattle.canon_set.proofs.TableMaps.{pushed_touch, pushed_entries}
 use Rattle.canon_set.proofs.table.Table.put.Goals as goal
 

@@ -1,5 +1,4 @@
-use Rattle.std.proofs.Common.{◌≡◌, ◌||◌, Bool, not, refl, ap}
-use Rattle.sync_command.specs.Values.{is_dir}
+use Rattle.std.proofs.Common.{◌||◌, not, refl}
 use Rattle.canon_set.specs.declared.table.Touched.{Touched}
 use Rattle.canon_set.proofs.TableMaps.{renewed_touch, renewed_entries}
 use Rattle.canon_set.proofs.table.Table.set_last.Goals as goal
