@@ -4,7 +4,8 @@ use Rattle.std.specs.Str.{bytes_eq}
 use Rattle.tool_words.specs.Words.{Text}
 use Rattle.tool_words.specs.Commands.{shape_of, verb_in}
 use Rattle.tool_words.specs.Help.{help_line, help_lines}
-use Rattle.tool_words.specs.Trees.{asked_folders}
+use Rattle.tool_words.specs.Trees.{asked_folders, folder_places}
+use Rattle.tool_words.specs.Jobs.{job_of}
 use Rattle.tool_words.specs.declared.commands.CommandShape.{CommandShape}
 use Rattle.tool_words.specs.declared.job.Job.{Job}
 
@@ -27,6 +28,9 @@ pub lines_here : (shapes : List CommandShape) (at : ℕ) (shape : CommandShape) 
 lines_here shapes at shape within is = ap (λ rest. help_lines (map shape_of rest)) (entry shapes at shape within is)
 
 -- no job of a command that is built names a folder
-pub no_folders : (job : Option Job) → asked_folders job ≡ []
+no_folders : (job : Option Job) → asked_folders job ≡ []
 no_folders None = refl
 no_folders (Some job) = refl
+
+pub no_places : (words : List Text) → folder_places words ≡ []
+no_places words = ap (map (λ folder. folder.place)) (no_folders (job_of words))

@@ -8,6 +8,7 @@ use std::ops::Range;
 
 /// The places of the words that name folders, which follow one another. No command that is built
 /// works on a folder.
+#[tactic(auto, using(crate::proofs::Table::no_places))]
 fn folder_words(words: &[String]) -> Range<usize>
     ensures start { result.start ≡ first_place (folder_places (texts_of words.now)) }
     ensures end { result.end ≡ result.start + length (folder_places (texts_of words.now)) }
