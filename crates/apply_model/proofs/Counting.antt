@@ -3,7 +3,7 @@ use Rattle.std.proofs.Common.{◌≡◌, Bool, true, false, not, ◌&&◌, ◌||
 use Rattle.std.specs.Prelude.{if◌then◌else◌}
 use Rattle.sync_path.specs.Paths.{Node, parent, same_path}
 use Rattle.apply_model.specs.Tables.{is_parent, is_child, has, is_once, IsChildCount}
-use Rattle.apply_model.proofs.Steps.{same_path_at, same_path_is, same_path_refl}
+use Rattle.sync_path.proofs.CallerLemmas.{same_path_at, same_path_is, same_path_refl}
 
 -- ---- children
 
@@ -19,7 +19,7 @@ child_is p q e = go (parent p) refl e
 
 -- ---- lists of paths
 
--- the list without the path, where it stands first
+-- the list without the path, where it comes first
 abbrev pub without : Node → List Node → List Node
 without m [] = []
 without m (k ∷ ks) = if same_path m k then ks else k ∷ without m ks

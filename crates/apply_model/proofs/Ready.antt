@@ -1,12 +1,13 @@
 -- What a table that is kept right says of its tree, and when a command can be done on it.
-use Rattle.std.proofs.Common.{◌≡◌, ◌↔◌, ℕ, ◌<◌, ◌≤◌, length, Bool, true, false, not, ◌&&◌, ◌||◌, cond, IsTrue, List, [], ◌∷◌, Option, Some, None, refl, sym, ap, ◌∙◌, subst, arith}
+use Rattle.std.proofs.Common.{◌≡◌, ◌↔◌, ℕ, ◌<◌, ◌≤◌, length, Bool, true, false, not, ◌&&◌, ◌||◌, cond, IsTrue, [], ◌∷◌, Option, Some, None, refl, sym, ap, ◌∙◌, subst, arith}
 use Rattle.std.specs.Prelude.{if◌then◌else◌}
 use Rattle.std.specs.FinMap as map
 use Rattle.std.specs.List.{AllByRecursion, IsDistinct}
 use Rattle.std.specs.Map.{keys_of, lookup}
 use Rattle.sync_path.specs.Order.{path_eq}
-use Rattle.sync_path.specs.Paths.{Node, parent, same_path}
-use Rattle.sync_path.proofs.OrderLaws.{parent_none}
+use Rattle.sync_path.specs.Paths.{Node, parent}
+use Rattle.sync_path.proofs.CallerLemmas.{parent_none, same_path_at, same_path_is}
+use Rattle.sync_command.proofs.CallerLemmas.{empty_is}
 use Rattle.sync_command.specs.Changes.{Change}
 use Rattle.sync_command.specs.Maps.{IsTreeMap, Store, at}
 use Rattle.sync_command.specs.Trees.{Holding}
@@ -17,8 +18,7 @@ use Rattle.apply_model.specs.declared.table.Entry.{Entry}
 use Rattle.apply_model.specs.Parents.{HoldsChild, IsBelowDir, IsReady}
 use Rattle.apply_model.specs.Tables.{IsKept, any_dir_above, children_in, is_child, is_full, map_of, value_in}
 use Rattle.apply_model.proofs.Counting.{child_at, child_is, count_none, count_some}
-use Rattle.apply_model.proofs.Kept.{empty_is}
-use Rattle.apply_model.proofs.Steps.{not_both, same_path_at, same_path_is, same_some}
+use Rattle.apply_model.proofs.Steps.{not_both, same_some}
 use Rattle.apply_model.proofs.Tables.{Entries, at-map_of, full-map_of, get_held, held_value, path_eq-flip}
 
 full_is : (v : Value) → not (is_empty v) ≡ true → is_empty v ≡ false
@@ -139,7 +139,7 @@ module _ (es : Entries) (m : Store) (is : map_of es ≡ m) where
         λ k. empty ∙ ap is_empty (from ∙ sym k.old ∙ at_is c.node None (here None found)),
       )
 
-    -- some entry gives the node's parent as a directory exactly where one stands there
+    -- some entry gives the node's parent as a directory exactly where one is there
     pub dir_above : IsDistinct path_eq (keys_of es) → (n : Node) (r : Bool) → r ≡ any_dir_above n es → (length n ≡ 1 → ⊥) → 0 < length n → IsTrue r ↔ IsBelowDir (at m) n
     dir_above apart n r e deep some = (
       λ t q up. ap is_dir (at_is q (lookup (path_eq q) es) refl) ∙ found_dir es n q up apart (sym e ∙ t),

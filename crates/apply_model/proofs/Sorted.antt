@@ -1,33 +1,32 @@
 -- The rows of a table: those of its nodes that are not empty, sorted by their paths.
-use Rattle.std.proofs.Common.{◌≡◌, Err, IfOk, Ok, Result, ℕ, zero, suc, ◌+◌, ◌<◌, ◌≤◌, Bool, true, false, cond, List, [], ◌∷◌, ◌++◌, length, get_or, Option, Some, None, refl, sym, ap, subst, ◌∙◌, add-one, arith}
+use Rattle.std.proofs.Common.{◌≡◌, ℕ, zero, suc, ◌<◌, Bool, true, false, cond, List, [], ◌∷◌, ◌++◌, length, get_or, Option, Some, None, refl, sym, ap, subst, ◌∙◌, add-one, arith}
 use Rattle.std.specs.Prelude.{if◌then◌else◌, map}
-use Rattle.std.specs.FinMap as finmap
 use Rattle.std.specs.List.{AllByRecursion, Contains, IsDistinct, slice_get}
 use Rattle.std.specs.List.Sorted.{IsPermutation, IsSortedBy}
 use Rattle.std.specs.Map.{keys_of, lookup}
-use Rattle.std.specs.Ordering.{eq_by_cmp, is_eq, is_lt, ordering_reverse}
+use Rattle.std.specs.Ordering.{is_eq, is_lt, ordering_reverse}
 use Rattle.std.specs.declared.cmp.Ordering.{Ordering}
 use Rattle.std.specs.declared.cmp.Ordering.TheVariants.{Less, Equal, Greater}
 use Rattle.std.proofs.lemmas.List.Sorted.{Contains-permutation, IsPermutation-map, IsPermutation-sym, ranks_by, sorted_far}
 use Rattle.std.proofs.lemmas.Map.Entries.{lookup_from_place, place_from_lookup}
-use Rattle.std.proofs.lemmas.Map.Keys.{IsDistinct-IsPermutation, IsDistinct-cons, IsDistinct-head, IsDistinct-tail}
+use Rattle.std.proofs.lemmas.Map.Keys.{IsDistinct-IsPermutation}
 use native.Mathlib.Numerals.{unary_clauses}
 use Rattle.sync_path.specs.Order.{path_cmp_exact, path_cmp_total, path_eq, path_eq_equiv}
 use Rattle.sync_path.specs.Paths.{Node, path_cmp}
-use Rattle.sync_command.specs.Maps.{IsTreeMap, Store, at, value_or_empty}
+use Rattle.sync_command.specs.Maps.{IsTreeMap, Store, value_or_empty}
 use Rattle.sync_command.specs.Rows.{IsRowTree}
 use Rattle.sync_command.specs.Values.{is_empty}
 use Rattle.sync_command.specs.declared.commands.Row.{Row}
 use Rattle.sync_command.specs.declared.values.Value.{Value}
-use Rattle.sync_command.specs.declared.values.Value.TheVariants.{Dir, Empty, File}
+use Rattle.sync_command.specs.declared.values.Value.TheVariants.{Empty}
+use Rattle.sync_command.proofs.CallerLemmas.{empty_is}
 use Rattle.apply_model.specs.Entries.{entry_of, row_of, rows_of, store_of}
 use Rattle.apply_model.specs.Tables.{map_of, value_in}
-use Rattle.apply_model.proofs.Kept.{empty_is}
 use Rattle.apply_model.proofs.Rising.{AllAfter, Entries, Rising, at-lookup, entries-from_rising, get-lookup}
 use Rattle.apply_model.proofs.RowTrees.{map_entries, map_rows, tree_rows}
 use Rattle.apply_model.proofs.Steps.{not_both}
 use Rattle.apply_model.proofs.Tables as table
-use Rattle.apply_model.proofs.Tables.{at-map_of, full-map_of, same_store}
+use Rattle.apply_model.proofs.Tables.{at-map_of, full-map_of, same_full}
 
 -- the entries that are not empty, with their values
 abbrev pub full_entries : table.Entries → Entries
@@ -188,7 +187,7 @@ module _ (es : table.Entries) (m : Store) (is : map_of es ≡ m) (apart : IsDist
   rising = rising_sorted sorted (subst (IsDistinct path_eq) (keys-entry_of sorted) moved_apart) order
 
   same : m ≡ store_of sorted
-  same = sym is ∙ same_store (map_of es) (store_of sorted) (full-map_of es) full (λ q.
+  same = sym is ∙ same_full (map_of es) (store_of sorted) (full-map_of es) full (λ q.
       at-map_of es q ∙ sym (lookup-full_entries es apart q) ∙ ap value_or_empty (sym (lookup-moved (full_entries es) (map entry_of sorted) moved_entries (full_apart es apart) moved_apart q)) ∙ sym (at-lookup (map entry_of sorted) q))
     where
       full : table.IsFull (store_of sorted)
@@ -207,10 +206,9 @@ module _ (es : table.Entries) (m : Store) (is : map_of es ≡ m) (apart : IsDist
       append_nothing [] = refl
       append_nothing (r ∷ rs) = ap (λ l. r ∷ l) (append_nothing rs)
 
-  pub all_rows : {V E : Type 0} (r : Result V E) (items : V → List Row) → IfOk r (λ s. IsPermutation rows (items s)) → IfOk r (λ s. IsInOrder (items s)) → IfOk r (λ s. items s ≡ rows_of m)
-  all_rows (Ok s) items moved order = rows_are es m is apart rows (items s) made_all moved order
-  all_rows (Err e) items moved order = tt
+  module _ (sorted : List Row) (moved : IsPermutation rows sorted) (order : IsInOrder sorted) where
+    pub all_rows : sorted ≡ rows_of m
+    all_rows = rows_are es m is apart rows sorted made_all moved order
 
-  pub all_tree : IsTreeMap m → {V E : Type 0} (r : Result V E) (items : V → List Row) → IfOk r (λ s. IsPermutation rows (items s)) → IfOk r (λ s. IsInOrder (items s)) → IfOk r (λ s. IsRowTree (items s))
-  all_tree tree (Ok s) items moved order = subst IsRowTree (sym (rows_are es m is apart rows (items s) made_all moved order)) (tree_rows m tree)
-  all_tree tree (Err e) items moved order = tt
+    pub all_tree : IsTreeMap m → IsRowTree sorted
+    all_tree tree = subst IsRowTree (sym all_rows) (tree_rows m tree)

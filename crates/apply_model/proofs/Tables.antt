@@ -4,7 +4,6 @@ use Rattle.std.specs.Prelude.{if◌then◌else◌, is_some}
 use Rattle.std.specs.FinMap as map
 use Rattle.std.specs.FinMap.{get-empty, same_map}
 use Rattle.std.specs.Map.{lookup}
-use Rattle.std.specs.Ordering.{eq_by_cmp}
 use Rattle.sync_path.specs.Order.{path_cmp_exact, path_cmp_total, path_eq, path_eq_equiv}
 use Rattle.sync_path.specs.Paths.{Node, parent, path_cmp, same_path}
 use Rattle.sync_command.specs.Maps.{IsTreeMap, Store, at, store, value_or_empty}
@@ -12,14 +11,15 @@ use Rattle.sync_command.specs.Trees.{IsTree, put}
 use Rattle.sync_command.specs.Values.{is_dir, is_empty}
 use Rattle.sync_command.specs.declared.values.Value.{Value}
 use Rattle.sync_command.specs.declared.values.Value.TheVariants.{Dir, Empty, File}
+use Rattle.sync_path.proofs.CallerLemmas.{parent_apart, same_path_is, same_path_refl}
+use Rattle.sync_command.proofs.CallerLemmas.{at-store, empty_is, empty_tree, full_from_dir, full_store, kept_put, put_apart, put_here}
 use Rattle.apply_model.specs.declared.table.Entry.{Entry}
 use Rattle.apply_model.specs.declared.table.Step.{Step}
 use Rattle.apply_model.specs.declared.table.Step.TheVariants.{Make, Remove, Replace}
-use Rattle.apply_model.specs.Steps.{IsStep, NamesParent, after_step}
+use Rattle.apply_model.specs.Steps.{IsStep, after_step}
 use Rattle.apply_model.specs.Tables.{IsChildCount, IsKept, Table, children_in, entry_with, is_child, is_full, is_parent, map_of, recounted, revalued, value_in, with_child}
-use Rattle.apply_model.proofs.Counting.{child_at, child_is, count_empty, count_less, count_low, count_more, count_none, count_same, count_some}
-use Rattle.apply_model.proofs.Kept.{at-store, empty_is, empty_tree, full_store, kept_put}
-use Rattle.apply_model.proofs.Steps.{below_from_put, full_from_dir, not_both, parent_apart, put_apart, put_here, same_path_is, same_path_refl}
+use Rattle.apply_model.proofs.Counting.{child_at, child_is, count_empty, count_less, count_more, count_same, count_some}
+use Rattle.apply_model.proofs.Steps.{below_from_put, not_both}
 
 abbrev pub Entries : Type 0
 Entries = List (Node × Entry)
@@ -45,8 +45,8 @@ full-map_of [] = empty_tree.full
 full-map_of (e ∷ es) = full_store (map_of es) e.0 e.1.value (full-map_of es)
 
 -- two maps that hold the same are one
-pub same_store : (m n : Store) → IsFull m → IsFull n → ((q : Node) → at m q ≡ at n q) → m ≡ n
-same_store m n f g same = same_map path_cmp_total path_cmp_exact m n (λ q. go (map.get m q) (map.get n q) (f q) (g q) (same q))
+pub same_full : (m n : Store) → IsFull m → IsFull n → ((q : Node) → at m q ≡ at n q) → m ≡ n
+same_full m n f g same = same_map path_cmp_total path_cmp_exact m n (λ q. go (map.get m q) (map.get n q) (f q) (g q) (same q))
   where
     go : (o r : Option Value) → (o ≡ Some Empty → ⊥) → (r ≡ Some Empty → ⊥) → value_or_empty o ≡ value_or_empty r → o ≡ r
     go None None f g e = refl
@@ -69,7 +69,7 @@ get_held m f q v e = go (map.get m q) (f q) e (is_empty v) (empty_is v) refl
 
 -- entries that give the same values at each node have one map
 pub same_values : (es fs : Entries) → ((q : Node) → lookup (path_eq q) fs ≡ lookup (path_eq q) es) → map_of fs ≡ map_of es
-same_values es fs same = same_store _ _ (full-map_of fs) (full-map_of es) (λ q. at-map_of fs q ∙ ap value_in (same q) ∙ sym (at-map_of es q))
+same_values es fs same = same_full _ _ (full-map_of fs) (full-map_of es) (λ q. at-map_of fs q ∙ ap value_in (same q) ∙ sym (at-map_of es q))
 
 -- ---- one write to a table
 
@@ -155,7 +155,7 @@ module _ (es fs : Entries) (n : Node) (v : Value) (change : IsChanged (λ q. loo
 
   -- the map has the value at the node
   pub changed_map : map_of fs ≡ store (map_of es) n v
-  changed_map = same_store _ _ (full-map_of fs) (full_store (map_of es) n v (full-map_of es)) changed_at
+  changed_map = same_full _ _ (full-map_of fs) (full_store (map_of es) n v (full-map_of es)) changed_at
 
   full_here : is_full (map_of fs) n ≡ not (is_empty v)
   full_here = ap (λ w. not (is_empty w)) (changed_at n ∙ ap (λ t. t n) (at-store (map_of es) n v) ∙ put_here (at (map_of es)) n v)
@@ -253,7 +253,7 @@ count_level true k = refl
 count_level false k = refl
 
 module _ (es : Entries) (n : Node) (v : Value) (kept : IsKept (map_of es) (λ q. lookup (path_eq q) es)) (tree : IsTree (put (at (map_of es)) n v)) where
-  -- what stands above a node that is full before or after has an entry
+  -- what is above a node that is full before or after has an entry
   above_some : (q : Node) → parent n ≡ Some q → is_empty (value_in (lookup (path_eq n) es)) ≡ false ⊎ is_empty v ≡ false → is_some (lookup (path_eq q) es) ≡ true
   above_some q up (inl full) = dir_entry (lookup (path_eq q) es) (sym (ap is_dir (at-map_of es q)) ∙ kept.tree.tree q n up (ap is_empty (at-map_of es n) ∙ full))
   above_some q up (inr full) = dir_entry (lookup (path_eq q) es) (sym (ap is_dir (at-map_of es q)) ∙ below_from_put (at (map_of es)) n v tree full q up)
@@ -364,7 +364,6 @@ same_kept es fs same kept = record {
   where
     is : map_of fs ≡ map_of es
     is = same_values es fs same
-
 
 -- nothing is in the empty table
 pub empty_kept : IsKept (map_of []) (λ q. None)

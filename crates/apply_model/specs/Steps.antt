@@ -1,10 +1,9 @@
 -- What a command does to the table.
-use Rattle.std.specs.Prelude.{◌≡◌, true, false, Bool, Option, if◌then◌else◌, ⊤}
+use Rattle.std.specs.Prelude.{◌≡◌, true, false, if◌then◌else◌, ⊤}
 use Rattle.sync_path.specs.Paths.{Node, parent, same_path}
 use Rattle.sync_command.specs.Values.{is_empty}
 use Rattle.sync_command.specs.declared.values.Value.{Value}
 use Rattle.apply_model.specs.Tables.{Table, entry_with, revalued, with_child}
-use Rattle.apply_model.specs.declared.table.Entry.{Entry}
 use Rattle.apply_model.specs.declared.table.Step.{Step}
 use Rattle.apply_model.specs.declared.table.Step.TheVariants.{Make, Remove, Replace}
 

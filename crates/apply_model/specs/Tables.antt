@@ -45,7 +45,7 @@ abbrev pub has : List Node → Node → Bool
 has [] p = false
 has (k ∷ ks) p = same_path p k || has ks p
 
--- each path stands once in the list
+-- each path is in the list once
 abbrev pub is_once : List Node → Bool
 is_once [] = true
 is_once (k ∷ ks) = not (has ks k) && is_once ks

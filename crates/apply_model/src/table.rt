@@ -10,7 +10,6 @@ ghost use Rattle.sync_command.specs.declared.commands.Row.{Row};
 ghost use Rattle.apply_model.specs.Steps.{NamesParent, after_step};
 ghost use Rattle.apply_model.specs.Tables.{any_dir_above, entry_with, recounted, revalued, with_child};
 
-use crate::tree_map::is_dir;
 use std::collections::HashMap;
 use sync_command::{Row, Value};
 use sync_path::{NoMemory, Path};
@@ -116,26 +115,25 @@ pub(crate) fn change(
     Ok(())
 }
 
-/// Whether a directory stands at the parent of the path. Looks at all nodes, and takes no memory.
+/// Whether the parent of the path is a directory. Looks at all nodes, and takes no memory.
 pub(crate) fn any_dir_above(nodes: &HashMap<Path, Entry>, path: &Path) -> bool
     ensures value { result ≡ any_dir_above path.now nodes.now.entries }
     ensures unique { hash.IsUnique path_eq nodes.now }
 {
     let _count = nodes.len();
     'nodes: for (above, entry) in nodes {
-        if above.parent_of(path) && is_dir(&entry.value) {
+        if above.parent_of(path) && entry.value.is_dir() {
             return true;
         }
     }
     false
 }
 
-/// Rows in path order. After a refusal they are dropped.
-pub(crate) fn in_order(mut rows: Vec<Row>) -> Result<Vec<Row>, NoMemory>
-    ensures moved { IfOk result (λ sorted. IsPermutation rows.items sorted.items) }
-    ensures sorted { IfOk result (λ sorted. IsSortedByKey (λ (r : Row). r.path) path_cmp sorted.items) }
+/// The rows in path order. Takes no memory.
+pub(crate) fn in_order(mut rows: Vec<Row>) -> Vec<Row>
+    ensures moved { IsPermutation rows.items result.items }
+    ensures sorted { IsSortedByKey (λ (r : Row). r.path) path_cmp result.items }
 {
-    // long parts that are in order already are only merged
-    rows.sort_by(|first, second| first.path.cmp(&second.path))?;
-    Ok(rows)
+    rows.sort_unstable_by(|first, second| first.path.cmp(&second.path));
+    rows
 }

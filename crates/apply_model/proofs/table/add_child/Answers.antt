@@ -1,7 +1,6 @@
 use Rattle.std.proofs.Common.{◌≡◌, Some, ap, refl, subst, sym}
 use Rattle.std.specs.Prelude.{IsSome, true}
 use Rattle.std.specs.HashMap as hash
-use Rattle.std.specs.HashMap.{spare}
 use Rattle.sync_path.specs.Order.{path_eq}
 use Rattle.apply_model.specs.declared.table.Entry.{Entry}
 use Rattle.apply_model.specs.Tables.{recounted}

@@ -6,4 +6,4 @@ use Rattle.sync_command.specs.declared.commands.Row.{Row}
 use Rattle.apply_model.proofs.table.in_order.Goals as goal
 
 pub returns-clause-sorted : goal.returns-clause-sorted
-returns-clause-sorted c = c.in_ok-sort_by.ensures.sorted (λ (a b : Row). is_lt (path_cmp a.path b.path)) (ranks_by path_cmp_total (λ (r : Row). r.path)) (answers_always _ _ _ (λ f a r f' k. search rules))
+returns-clause-sorted c = c.sort_unstable_by.ensures.sorted (λ (a b : Row). is_lt (path_cmp a.path b.path)) (ranks_by path_cmp_total (λ (r : Row). r.path)) (answers_always _ _ _ (λ f a r f' k. search rules))

@@ -1,8 +1,8 @@
-use Rattle.std.proofs.Common.{◌≡◌, ap, refl, subst, sym, ◌∙◌, true, false}
+use Rattle.std.proofs.Common.{◌≡◌, ap, sym, ◌∙◌, false}
 use Rattle.std.proofs.lemmas.Bool.{both_ways}
 use Rattle.sync_path.specs.Paths.{parent}
 use Rattle.sync_command.specs.Maps.{at}
-use Rattle.sync_command.specs.Trees.{IsApplicable, IsTree}
+use Rattle.sync_command.specs.Trees.{IsTree}
 use Rattle.sync_command.specs.Values.{is_empty}
 use Rattle.apply_model.specs.Parents.{IsReady}
 use Rattle.apply_model.proofs.Ready.{tree_is}
@@ -40,8 +40,7 @@ returns-then-is_dir_at-clause-ok c = let tree : IsTree (at c.args.self.now) = (t
     let ready : IsReady (at c.args.self.now) c.args.command.now = c.is_ready.ensures.0 c.if-not-is_ready.false in
     let was : c.is_empty-was_empty.result ≡ is_empty c.args.command.now.old = c.is_empty-was_empty.ensures ∙ ap is_empty c.old.ensures in
     let now : c.is_empty.result ≡ is_empty c.args.command.now.new = c.is_empty.ensures ∙ ap is_empty c.new_value.ensures in
-    let up : c.in-Ok.above ≡ parent c.args.command.now.node = c.in-Ok.ensures ∙ ap parent c.path.ensures in
-    (
+    let up : c.in-Ok.above ≡ parent c.args.command.now.node = c.in-Ok.ensures ∙ ap parent c.path.ensures in (
       below_takes (at c.args.self.now) c.args.command.now tree ready ((c.is_dir_at.ensures c.args.command.now.node (c.as_ref.ensures.value ∙ up)).0 c.if-is_dir_at.true),
       (sym was ∙ c.if-not-was_empty.false, sym now ∙ not_true _ _ (turned _ _ c.if-was_empty-is_empty.false) c.if-not-was_empty.false, up),
     )
