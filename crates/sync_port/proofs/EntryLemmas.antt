@@ -121,9 +121,9 @@ drop_drop [] at count = ap (λ t. drop count t) (nothing_past [] at (omega arith
 drop_drop (b ∷ bytes) zero count = ap (λ n. drop n (b ∷ bytes)) (sym (zero-add count))
 drop_drop (b ∷ bytes) (suc at) count = drop_drop bytes at count ∙ ap (λ n. drop n (b ∷ bytes)) (sym (suc-add at count))
 
--- what is to come is the piece in front, and what is then to come
-pub front_then_rest : (bytes : List ℕ) (at count : ℕ) → drop at bytes ≡ take count (drop at bytes) ++ drop (at + count) bytes
-front_then_rest bytes at count = sym (take-append-drop count (drop at bytes)) ∙ ap (λ t. take count (drop at bytes) ++ t) (drop_drop bytes at count)
+-- what is to come is the piece, and what is then to come
+pub first_then_rest : (bytes : List ℕ) (at count : ℕ) → drop at bytes ≡ take count (drop at bytes) ++ drop (at + count) bytes
+first_then_rest bytes at count = sym (take-append-drop count (drop at bytes)) ∙ ap (λ t. take count (drop at bytes) ++ t) (drop_drop bytes at count)
 
 pub whole_rest : (bytes : List ℕ) (at : ℕ) → take (length bytes - at) (drop at bytes) ≡ drop at bytes
 whole_rest bytes at = take_rest bytes at

@@ -1,3 +1,5 @@
-pub mod Steps
+pub mod CallerLemmas
+pub mod Known
+pub mod Pieces
 pub mod EntryLemmas
 pub mod Gathering

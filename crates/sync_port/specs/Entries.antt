@@ -20,7 +20,7 @@ abbrev pub bytes_at : List Entry → Option ℕ → List ℕ
 bytes_at entries None = []
 bytes_at entries (Some place) = entry_bytes entries place
 
--- the first entry of the name stands at the place
+-- the first entry of the name is at the place
 abbrev pub IsPlaceOf : List ℕ → List Entry → ℕ → Type 0
 IsPlaceOf name [] place = ⊥
 IsPlaceOf name (e ∷ rest) zero = string_bytes e.name ≡ name

@@ -1,8 +1,8 @@
 -- What files and sinks in memory hold.
-use Rattle.std.specs.Prelude.{◌==◌, ℕ, List, Bool, drop}
+use Rattle.std.specs.Prelude.{◌==◌, ℕ, List, Bool, Some, drop}
 use Rattle.std.specs.List.{list_any}
-use Rattle.sync_port.specs.Told.{next_number}
-use Rattle.sync_port.specs.Ports.{Names, Shelf, Wrote}
+use Rattle.sync_port.specs.States.{next_number}
+use Rattle.sync_port.specs.Ports.{Names, FileContents, FilesState, SinkContents, SinkState}
 use Rattle.sync_port.specs.Entries.{held_in, bytes_at}
 use Rattle.sync_port.specs.declared.mem_files.MemFiles.{MemFiles}
 use Rattle.sync_port.specs.declared.mem_sink.MemSink.{MemSink}
@@ -17,9 +17,16 @@ names_held s = held_in s.entries.items
 abbrev pub bytes_to_come : MemFiles → List ℕ
 bytes_to_come s = drop s.at (bytes_at s.entries.items s.opened)
 
--- what they tell
-abbrev pub shelf_of : MemFiles → Shelf
-shelf_of s = record { held = names_held s; rest = bytes_to_come s }
+-- how often `open` was called
+abbrev pub opens_counted : MemFiles → ℕ
+opens_counted s = s.opens
+
+-- how many bytes were read
+abbrev pub bytes_taken : MemFiles → ℕ
+bytes_taken s = s.taken
+
+abbrev pub file_contents : MemFiles → FileContents
+file_contents s = record { held = names_held s; to_come = bytes_to_come s; opened = opens_counted s; taken = bytes_taken s }
 
 -- the numbers of the calls that fail
 abbrev pub calls_that_fail : MemFiles → List ℕ
@@ -36,23 +43,25 @@ next_call_fails s = list_any (λ n. n == next_number (calls_made s)) (calls_that
 abbrev pub faults_counted : MemFiles → ℕ
 faults_counted s = s.faults
 
+abbrev pub files_state : MemFiles → FilesState
+files_state s = record { contents = Some (file_contents s); faults = faults_counted s }
+
 -- ---- sinks
 
 -- the bytes so far
 abbrev pub bytes_written : MemSink → List ℕ
 bytes_written s = s.bytes.items
 
--- how many of them stood there at the last flush
+-- how many of them were there at the last flush
 abbrev pub bytes_flushed : MemSink → ℕ
 bytes_flushed s = s.flushed
 
--- what it tells
-abbrev pub wrote_of : MemSink → Wrote
-wrote_of s = record { written = bytes_written s; flushed = bytes_flushed s }
+abbrev pub sink_contents : MemSink → SinkContents
+sink_contents s = record { written = bytes_written s; flushed = bytes_flushed s }
 
 -- the number of bytes that it takes in all
-abbrev pub whole_room : MemSink → ℕ
-whole_room s = s.room
+abbrev pub capacity_of : MemSink → ℕ
+capacity_of s = s.capacity
 
 -- whether each flush fails
 abbrev pub flushes_fail : MemSink → Bool
@@ -60,3 +69,6 @@ flushes_fail s = s.flush_fails
 
 abbrev pub sink_faults : MemSink → ℕ
 sink_faults s = s.faults
+
+abbrev pub sink_state : MemSink → SinkState
+sink_state s = record { contents = Some (sink_contents s); faults = sink_faults s }

@@ -1,4 +1,4 @@
-pub mod Told
+pub mod States
 pub mod Faults
 pub mod Ports
 pub mod Whole

@@ -1,6 +1,6 @@
--- What files and sinks tell, and what their calls do to it.
-use Rattle.std.specs.Prelude.{◌≡◌, ◌⊎◌, ◌<◌, ◌≤◌, ◌++◌, [], take, length, ℕ, List, ⊤, Option, None, Some, Result, Ok, Err, IsErrOf, OnErr}
-use Rattle.sync_port.specs.Told.{Rose}
+-- What is known of files and sinks, and what their calls do to it.
+use Rattle.std.specs.Prelude.{◌≡◌, ◌⊎◌, ◌<◌, ◌≤◌, ◌++◌, [], take, length, ℕ, List, ⊤, Option, None, Some, Result, Ok, Err, IsErrOf, OnOk, OnErr}
+use Rattle.sync_port.specs.States.{PortState, FaultCounted, next_number, sum_within}
 use Rattle.sync_port.specs.declared.faults.PortFault.{PortFault}
 use Rattle.sync_port.specs.declared.faults.PortFault.TheVariants.{Failed}
 use Rattle.sync_port.specs.declared.faults.SinkFailed.{SinkFailed}
@@ -11,58 +11,93 @@ use Rattle.sync_port.specs.declared.faults.SinkFailed.{SinkFailed}
 abbrev pub Names : Type 0
 Names = List ℕ → Option (List ℕ)
 
--- what files tell: what is held under the names, and what is to come of the file that was opened last
-pub record Shelf : Type 0 where
+-- What is held under the names, and what is to come of the file that was opened last. The calls of
+-- `open` and the bytes that were read are counted from the start, up to u64's last value.
+pub record FileContents : Type 0 where
   pub held : Names
-  pub rest : List ℕ
+  pub to_come : List ℕ
+  pub opened : ℕ
+  pub taken : ℕ
 
--- it is told that no file has the name
-abbrev pub IsAbsent : Option Shelf → List ℕ → Type 0
-IsAbsent None name = ⊥
-IsAbsent (Some m) name = m.held name ≡ None
+abbrev pub FilesState : Type 0
+FilesState = PortState FileContents
+
+-- the names are known, and no file has this one
+abbrev pub IsAbsentIn : Option FileContents → List ℕ → Type 0
+IsAbsentIn None name = ⊥
+IsAbsentIn (Some m) name = m.held name ≡ None
+
+abbrev pub IsAbsent : FilesState → List ℕ → Type 0
+IsAbsent state name = IsAbsentIn state.contents name
+
+-- what is under the names and the counts are as before
+pub record SameFiles (m k : FileContents) : Type 0 where
+  pub held : k.held ≡ m.held
+  pub opened : k.opened ≡ m.opened
+  pub taken : k.taken ≡ m.taken
 
 -- an `open`: the bytes under the name are to come, or no file is open
-abbrev pub Opens : {T : Type 0} → List ℕ → Result T PortFault → Shelf → Shelf → Type 0
-Opens name (Ok done) m k = (k.held ≡ m.held) × (m.held name ≡ Some k.rest)
-Opens name (Err fault) m k = (k.held ≡ m.held) × (k.rest ≡ [])
+abbrev pub IsOpened : {T : Type 0} → List ℕ → Result T PortFault → FileContents → FileContents → Type 0
+IsOpened name (Ok done) m k = m.held name ≡ Some k.to_come
+IsOpened name (Err fault) m k = k.to_come ≡ []
+
+pub record Opens {T : Type 0} (name : List ℕ) (result : Result T PortFault) (m k : FileContents) : Type 0 where
+  pub held : k.held ≡ m.held
+  pub to_come : IsOpened name result m k
+  pub opened : k.opened ≡ next_number m.opened
+  pub taken : k.taken ≡ m.taken
 
 -- the count of faults of an `open`; a name that is not held is no fault
-pub record OpenCause {T : Type 0} (before now : ℕ) (told : Option Shelf) (name : List ℕ) (result : Result T PortFault) : Type 0 where
-  pub later : before ≤ now
-  pub failed : IsErrOf result Failed → Rose before now ⊎ IsAbsent told name
-  pub absent : IsAbsent told name → now ≡ before
+pub record OpenFaults {T : Type 0} (name : List ℕ) (result : Result T PortFault) (before now : FilesState) : Type 0 where
+  pub later : before.faults ≤ now.faults
+  pub done : OnOk result (now.faults ≡ before.faults)
+  pub failed : IsErrOf result Failed → FaultCounted before now ⊎ IsAbsent before name
+  pub absent : IsAbsent before name → now.faults ≡ before.faults
 
--- a `read`: the next bytes stand in the front of the piece
-abbrev pub Reads : List ℕ → Result ℕ PortFault → Shelf → Shelf → Type 0
-Reads piece (Ok count) m k = (k.held ≡ m.held) × (m.rest ≡ take count piece ++ k.rest) × (count ≡ 0 → 0 < length piece → k.rest ≡ [])
+-- a `read`: the next bytes are the first of the piece; 0 of them only where the piece is empty or nothing is to come
+pub record ReadsPiece (piece : List ℕ) (count : ℕ) (m k : FileContents) : Type 0 where
+  pub held : k.held ≡ m.held
+  pub to_come : m.to_come ≡ take count piece ++ k.to_come
+  pub end : count ≡ 0 → 0 < length piece → k.to_come ≡ []
+  pub opened : k.opened ≡ m.opened
+  pub taken : k.taken ≡ sum_within m.taken count
+
+abbrev pub Reads : List ℕ → Result ℕ PortFault → FileContents → FileContents → Type 0
+Reads piece (Ok count) m k = ReadsPiece piece count m k
 Reads piece (Err fault) m k = k ≡ m
 
-pub record ReadCause (before now : ℕ) (result : Result ℕ PortFault) : Type 0 where
-  pub later : before ≤ now
-  pub failed : IsErrOf result Failed → Rose before now
+pub record ReadFaults (result : Result ℕ PortFault) (before now : FilesState) : Type 0 where
+  pub later : before.faults ≤ now.faults
+  pub done : OnOk result (now.faults ≡ before.faults)
+  pub failed : IsErrOf result Failed → FaultCounted before now
 
 -- ---- sinks
 
--- what a sink tells: the bytes so far, and how many of them stood there at the last flush
-pub record Wrote : Type 0 where
+-- the bytes so far, and how many of them were there at the last flush
+pub record SinkContents : Type 0 where
   pub written : List ℕ
   pub flushed : ℕ
 
-pub record SinkCause {T : Type 0} (before now : ℕ) (result : Result T SinkFailed) : Type 0 where
-  pub later : before ≤ now
-  pub failed : OnErr result (Rose before now)
+abbrev pub SinkState : Type 0
+SinkState = PortState SinkContents
+
+-- the count of faults of a call of a sink
+pub record SinkFaults {T : Type 0} (result : Result T SinkFailed) (before now : SinkState) : Type 0 where
+  pub later : before.faults ≤ now.faults
+  pub done : OnOk result (now.faults ≡ before.faults)
+  pub failed : OnErr result (FaultCounted before now)
 
 -- at most the whole piece was taken, and some of it, if there is any
 abbrev pub WritesSome : List ℕ → Result ℕ SinkFailed → Type 0
 WritesSome piece (Ok count) = (count ≤ length piece) × (0 < length piece → 0 < count)
 WritesSome piece (Err failed) = ⊤
 
--- a `write`: a front of the piece is appended
-abbrev pub Writes : List ℕ → Result ℕ SinkFailed → Wrote → Wrote → Type 0
+-- a `write`: the first bytes of the piece are appended
+abbrev pub Writes : List ℕ → Result ℕ SinkFailed → SinkContents → SinkContents → Type 0
 Writes piece (Ok count) m k = (k.written ≡ m.written ++ take count piece) × (k.flushed ≡ m.flushed)
 Writes piece (Err failed) m k = k ≡ m
 
--- a `flush`: all that was written stands there
-abbrev pub Flushes : {T : Type 0} → Result T SinkFailed → Wrote → Wrote → Type 0
+-- a `flush`: all that was written is at its place
+abbrev pub Flushes : {T : Type 0} → Result T SinkFailed → SinkContents → SinkContents → Type 0
 Flushes (Ok done) m k = (k.written ≡ m.written) × (k.flushed ≡ length m.written)
 Flushes (Err failed) m k = k ≡ m

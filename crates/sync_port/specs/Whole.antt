@@ -1,33 +1,35 @@
--- Reading a file as a whole.
-use Rattle.std.specs.Prelude.{Vec, ◌≡◌, ◌⊎◌, ◌+◌, ◌<◌, ◌≤◌, ◌++◌, [], length, drop, ℕ, List, Some, Result, Ok, Err, IsErrOf}
-use Rattle.sync_port.specs.Told.{Rose}
-use Rattle.sync_port.specs.Ports.{Shelf}
+-- Reading a file, piece by piece and as a whole.
+use Rattle.std.specs.Prelude.{Vec, ◌≡◌, ◌⊎◌, ◌+◌, ◌<◌, ◌≤◌, ◌++◌, [], length, drop, ℕ, List, Some, Result, Ok, Err, IsErrOf, OnOk}
+use Rattle.sync_port.specs.States.{FaultCounted, next_number}
+use Rattle.sync_port.specs.Ports.{FileContents, FilesState, IsAbsent}
 use Rattle.sync_port.specs.declared.faults.WholeFault.{WholeFault}
 use Rattle.sync_port.specs.declared.faults.WholeFault.TheVariants.{ReadFault, TooLarge, Memory}
 
 -- at most so many bytes of the file were read, or no file is open
-abbrev pub ReadsAtMost : List ℕ → ℕ → Shelf → Shelf → Type 0
-ReadsAtMost name most m k = (k.rest ≡ []) ⊎ ((front : List ℕ) × (m.held name ≡ Some (front ++ k.rest)) × (length front ≤ most))
+abbrev pub ReadsAtMost : List ℕ → ℕ → FileContents → FileContents → Type 0
+ReadsAtMost name most m k = (k.to_come ≡ []) ⊎ ((first : List ℕ) × (m.held name ≡ Some (first ++ k.to_come)) × (length first ≤ most))
 
 -- the file has more bytes than the limit, and one more than the limit was read
-abbrev pub IsTooLarge : List ℕ → ℕ → Shelf → Shelf → Type 0
-IsTooLarge name limit m k = (bytes : List ℕ) × (m.held name ≡ Some bytes) × (limit < length bytes) × (k.rest ≡ drop (limit + 1) bytes)
+abbrev pub IsTooLarge : List ℕ → ℕ → FileContents → FileContents → Type 0
+IsTooLarge name limit m k = (bytes : List ℕ) × (m.held name ≡ Some bytes) × (limit < length bytes) × (k.to_come ≡ drop (limit + 1) bytes)
 
 -- the whole file, or why not
-abbrev pub ReadsWhole : {A : Type 0} → List ℕ → ℕ → Result (Vec ℕ A) WholeFault → Shelf → Shelf → Type 0
-ReadsWhole name limit (Ok whole) m k = (k.held ≡ m.held) × (m.held name ≡ Some whole.items) × (length whole.items ≤ limit) × (k.rest ≡ [])
-ReadsWhole name limit (Err TooLarge) m k = (k.held ≡ m.held) × IsTooLarge name limit m k
-ReadsWhole name limit (Err ReadFault) m k = (k.held ≡ m.held) × ReadsAtMost name (limit + 1) m k
-ReadsWhole name limit (Err Memory) m k = (k.held ≡ m.held) × ReadsAtMost name (limit + 1) m k
+abbrev pub IsWhole : {A : Type 0} → List ℕ → ℕ → Result (Vec ℕ A) WholeFault → FileContents → FileContents → Type 0
+IsWhole name limit (Ok whole) m k = (m.held name ≡ Some whole.items) × (length whole.items ≤ limit) × (k.to_come ≡ [])
+IsWhole name limit (Err TooLarge) m k = IsTooLarge name limit m k
+IsWhole name limit (Err ReadFault) m k = ReadsAtMost name (limit + 1) m k
+IsWhole name limit (Err Memory) m k = ReadsAtMost name (limit + 1) m k
 
--- ---- one piece
+-- whatever is answered, one file was opened once, and at most one byte past the limit was taken
+pub record ReadsWhole {A : Type 0} (name : List ℕ) (limit : ℕ) (result : Result (Vec ℕ A) WholeFault) (m k : FileContents) : Type 0 where
+  pub held : k.held ≡ m.held
+  pub whole : IsWhole name limit result m k
+  pub opened : k.opened ≡ next_number m.opened
+  pub taken : k.taken ≤ m.taken + (limit + 1)
 
-pub record PieceCause {T : Type 0} (before now : ℕ) (result : Result T WholeFault) : Type 0 where
-  pub later : before ≤ now
-  pub failed : IsErrOf result ReadFault → Rose before now
-  pub not_large : IsErrOf result TooLarge → ⊥
-
--- a piece of what was to come went over to the end of the bytes; it is empty only at the file's end
-abbrev pub TakesPiece : ℕ → List ℕ → List ℕ → Result ℕ WholeFault → Shelf → Shelf → Type 0
-TakesPiece limit before now (Ok count) m k = (k.held ≡ m.held) × (before ++ m.rest ≡ now ++ k.rest) × (count ≡ 0 → k.rest ≡ [])
-TakesPiece limit before now (Err fault) m k = (k.held ≡ m.held) × ((piece : List ℕ) × (m.rest ≡ piece ++ k.rest) × (length before + length piece ≤ limit + 1))
+-- the count of faults: no call failed where the whole file was read or is too large
+pub record WholeFaults {T : Type 0} (name : List ℕ) (result : Result T WholeFault) (before now : FilesState) : Type 0 where
+  pub later : before.faults ≤ now.faults
+  pub done : OnOk result (now.faults ≡ before.faults)
+  pub large : IsErrOf result TooLarge → now.faults ≡ before.faults
+  pub failed : IsErrOf result ReadFault → FaultCounted before now ⊎ IsAbsent before name

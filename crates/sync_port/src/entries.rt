@@ -2,7 +2,7 @@
 
 ghost use Rattle.std.specs.Prelude.{◌≡◌, ◌≢◌, ◌<◌, ◌==◌, ℕ, List, IfSome, IfNone, OnOk, OnErr, None, Some, drop, length, take, min};
 ghost use Rattle.std.specs.List.{list_any};
-ghost use Rattle.sync_port.specs.Told.{next_number};
+ghost use Rattle.sync_port.specs.States.{next_number};
 ghost use Rattle.sync_port.specs.Entries.{held_in, entry_bytes, bytes_at, IsPlaceOf};
 
 use std::alloc::Global;
@@ -42,7 +42,7 @@ pub(crate) fn place_of(entries: &[Entry], name: &str) -> Option<usize>
     None
 }
 
-/// Puts the bytes under the name, in place of any that it had. After want of memory the entries are as before.
+/// Puts the bytes under the name, in place of any that it had. Where memory ran out the entries are as before.
 #[tactic(auto, using(crate::proofs::EntryLemmas::put_there, crate::proofs::EntryLemmas::put_leaves, crate::proofs::EntryLemmas::place_name, crate::proofs::EntryLemmas::pushed_there, crate::proofs::EntryLemmas::pushed_leaves))]
 pub(crate) fn put(
     alloc: Global,
@@ -82,8 +82,8 @@ pub(crate) fn bytes_from(bytes: &[u8], at: usize) -> &[u8]
     if at < bytes.len() { &bytes[at..] } else { &[] }
 }
 
-/// Copies as many bytes to the front of the piece as it has room for, and gives their number.
-pub(crate) fn copy_front(rest: &[u8], piece: &mut [u8]) -> usize
+/// Copies as many bytes into the piece as it takes, from its first byte on, and gives their number.
+pub(crate) fn copy_first(rest: &[u8], piece: &mut [u8]) -> usize
     ensures count { result ≡ min (length rest.now) (length piece.old) }
     ensures bytes { take result piece.new ≡ take result rest.now }
 {

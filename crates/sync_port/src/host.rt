@@ -1,8 +1,8 @@
-//! Files and streams of the system. They tell nothing of their content.
+//! Files and streams of the system. Nothing is known of their contents.
 
-ghost use Rattle.std.specs.Prelude.{◌≡◌, ◌≤◌, None, IfOk, length, is_ok, if◌then◌else◌};
-ghost use Rattle.sync_port.specs.Told.{next_number};
-ghost use Rattle.sync_port.specs.Ports.{OpenCause, ReadCause, SinkCause, WritesSome};
+ghost use Rattle.std.specs.Prelude.{◌≡◌, ◌≤◌, IfOk, length, is_ok, if◌then◌else◌};
+ghost use Rattle.sync_port.specs.States.{next_number, unknown_but};
+ghost use Rattle.sync_port.specs.Ports.{OpenFaults, ReadFaults, SinkFaults, WritesSome};
 
 use crate::{Files, PortFault, Sink, SinkFailed};
 use std::alloc::Global;
@@ -52,13 +52,11 @@ impl<R: std::rt::Files + Clone + Drop> HostFiles<R> {
 }
 
 impl<R: std::rt::Files + Clone + Drop> Files for HostFiles<R> {
-    ghost told = { λ s. None };
-
-    ghost faults = { λ s. s };
+    ghost files = { unknown_but };
 
     fn open(&mut self, name: &str) -> Result<(), PortFault>
-        ensures cause { OpenCause self.old self.new None name.now result }
-        ensures fault { self.new ≡ (if is_ok result then self.old else next_number self.old) }
+        ensures faults { OpenFaults name.now result (unknown_but self.old) (unknown_but self.new) }
+        ensures counted { self.new ≡ (if is_ok result then self.old else next_number self.old) }
     {
         self.opened = None;
         match fs::open(&self.rt, name) {
@@ -75,8 +73,8 @@ impl<R: std::rt::Files + Clone + Drop> Files for HostFiles<R> {
 
     fn read(&mut self, piece: &mut [u8]) -> Result<usize, PortFault>
         ensures bound { IfOk result (λ count. count ≤ length piece.new) }
-        ensures cause { ReadCause self.old self.new result }
-        ensures fault { self.new ≡ (if is_ok result then self.old else next_number self.old) }
+        ensures faults { ReadFaults result (unknown_but self.old) (unknown_but self.new) }
+        ensures counted { self.new ≡ (if is_ok result then self.old else next_number self.old) }
     {
         let Some(file) = &mut self.opened else {
             return Ok(0);
@@ -117,14 +115,12 @@ impl<W: Write + Drop> HostSink<W> {
 }
 
 impl<W: Write + Drop> Sink for HostSink<W> {
-    ghost told = { λ s. None };
-
-    ghost faults = { λ s. s };
+    ghost sink = { unknown_but };
 
     fn write(&mut self, piece: &[u8]) -> Result<usize, SinkFailed>
         ensures some { WritesSome piece.now result }
-        ensures cause { SinkCause self.old self.new result }
-        ensures fault { self.new ≡ (if is_ok result then self.old else next_number self.old) }
+        ensures faults { SinkFaults result (unknown_but self.old) (unknown_but self.new) }
+        ensures counted { self.new ≡ (if is_ok result then self.old else next_number self.old) }
     {
         match self.stream.write(piece) {
             Ok(count) if count > 0 || piece.is_empty() => Ok(count),
@@ -136,8 +132,8 @@ impl<W: Write + Drop> Sink for HostSink<W> {
     }
 
     fn flush(&mut self) -> Result<(), SinkFailed>
-        ensures cause { SinkCause self.old self.new result }
-        ensures fault { self.new ≡ (if is_ok result then self.old else next_number self.old) }
+        ensures faults { SinkFaults result (unknown_but self.old) (unknown_but self.new) }
+        ensures counted { self.new ≡ (if is_ok result then self.old else next_number self.old) }
     {
         match self.stream.flush() {
             Ok(()) => Ok(()),

@@ -1,13 +1,13 @@
-//! Files in memory, which fail where they are told to.
+//! Files in memory, whose calls fail at given numbers.
 
 ghost use Rattle.std.specs.Prelude.{◌≡◌, ◌≢◌, ◌≤◌, ◌||◌, ◌&&◌, List, ℕ, [], None, Some, length, min, OnOk, OnErr, IfOk, is_some, is_none, if◌then◌else◌};
 
-use crate::entries::{Entry, bytes_from, bytes_in, copy_front, counted, place_of, put};
+use crate::entries::{Entry, bytes_from, bytes_in, copy_first, counted, place_of, put};
 use crate::{Files, PortFault};
 use std::alloc::Global;
 use sync_path::NoMemory;
 
-/// Files in memory. They tell what they hold.
+/// Files in memory, whose contents are known.
 ///
 /// The calls of `open` and `read` are counted together from 1, up to `u64::MAX`, where the number stays. A call
 /// answers `Failed` exactly where its number was listed or it opens a name that is not held, and never `Memory`.
@@ -19,11 +19,13 @@ pub struct MemFiles {
     at: usize,
     fails: Vec<u64>,
     calls: u64,
+    opens: u64,
+    taken: u64,
     faults: u64,
 }
 
 impl MemFiles {
-    ghost use Rattle.sync_port.specs.InMemory.{names_held, bytes_to_come, shelf_of, calls_that_fail, calls_made, faults_counted};
+    ghost use Rattle.sync_port.specs.InMemory.{names_held, bytes_to_come, opens_counted, bytes_taken, file_contents, calls_that_fail, calls_made, faults_counted};
 
     /// Files that hold nothing. `fails` are the numbers of the calls that fail.
     pub fn new(alloc: Global, fails: Vec<u64>) -> MemFiles
@@ -31,6 +33,8 @@ impl MemFiles {
         ensures rest { bytes_to_come result ≡ [] }
         ensures fails { calls_that_fail result ≡ fails.items }
         ensures calls { calls_made result ≡ 0 }
+        ensures opened { opens_counted result ≡ 0 }
+        ensures taken { bytes_taken result ≡ 0 }
         ensures faults { faults_counted result ≡ 0 }
     {
         MemFiles {
@@ -40,19 +44,23 @@ impl MemFiles {
             at: 0,
             fails,
             calls: 0,
+            opens: 0,
+            taken: 0,
             faults: 0,
         }
     }
 
-    /// Puts the bytes under the name, in place of any that it had. After `Ok` no file is open; after want of
-    /// memory all is as before.
+    /// Puts the bytes under the name, in place of any that it had. After `Ok` no file is open; where
+    /// memory ran out all is as before.
     pub fn add(&mut self, name: &str, bytes: &[u8]) -> Result<(), NoMemory>
         ensures put { OnOk result (names_held self.new name.now ≡ Some bytes.now) }
         ensures others { (other : List ℕ) → other ≢ name.now → names_held self.new other ≡ names_held self.old other }
         ensures rest { OnOk result (bytes_to_come self.new ≡ []) }
-        ensures unchanged { OnErr result (shelf_of self.new ≡ shelf_of self.old) }
+        ensures unchanged { OnErr result (file_contents self.new ≡ file_contents self.old) }
         ensures fails { calls_that_fail self.new ≡ calls_that_fail self.old }
         ensures calls { calls_made self.new ≡ calls_made self.old }
+        ensures opened { opens_counted self.new ≡ opens_counted self.old }
+        ensures taken { bytes_taken self.new ≡ bytes_taken self.old }
         ensures faults { faults_counted self.new ≡ faults_counted self.old }
     {
         let bytes = Vec::from_slice(self.alloc, bytes)?;
@@ -64,23 +72,22 @@ impl MemFiles {
 }
 
 impl Files for MemFiles {
-    ghost use Rattle.sync_port.specs.Told.{next_number};
-    ghost use Rattle.sync_port.specs.Ports.{Opens, OpenCause, Reads, ReadCause};
-    ghost use Rattle.sync_port.specs.InMemory.{names_held, bytes_to_come, calls_that_fail, calls_made, faults_counted, next_call_fails, shelf_of};
+    ghost use Rattle.sync_port.specs.States.{next_number};
+    ghost use Rattle.sync_port.specs.Ports.{Opens, OpenFaults, Reads, ReadFaults};
+    ghost use Rattle.sync_port.specs.InMemory.{names_held, bytes_to_come, calls_that_fail, calls_made, faults_counted, next_call_fails, file_contents, files_state};
 
-    ghost told = { λ s. Some (shelf_of s) };
-
-    ghost faults = { faults_counted };
+    ghost files = { files_state };
 
     fn open(&mut self, name: &str) -> Result<(), PortFault>
-        ensures cause { OpenCause (faults_counted self.old) (faults_counted self.new) (Some (shelf_of self.old)) name.now result }
-        ensures told { Opens name.now result (shelf_of self.old) (shelf_of self.new) }
+        ensures faults { OpenFaults name.now result (files_state self.old) (files_state self.new) }
+        ensures contents { Opens name.now result (file_contents self.old) (file_contents self.new) }
         ensures answer { result ≡ (if next_call_fails self.old || is_none (names_held self.old name.now) then Err PortFault.Failed else Ok tt) }
-        ensures fault { faults_counted self.new ≡ (if next_call_fails self.old && is_some (names_held self.old name.now) then next_number (faults_counted self.old) else faults_counted self.old) }
+        ensures counted { faults_counted self.new ≡ (if next_call_fails self.old && is_some (names_held self.old name.now) then next_number (faults_counted self.old) else faults_counted self.old) }
         ensures calls { calls_made self.new ≡ next_number (calls_made self.old) }
         ensures fails { calls_that_fail self.new ≡ calls_that_fail self.old }
     {
         let fails = counted(&mut self.calls, &self.fails);
+        self.opens = self.opens.saturating_add(1);
         self.opened = None;
         self.at = 0;
         let Some(place) = place_of(&self.entries, name) else {
@@ -94,13 +101,13 @@ impl Files for MemFiles {
         Ok(())
     }
 
-    #[tactic(auto, using(crate::proofs::EntryLemmas::front_then_rest))]
+    #[tactic(auto, using(crate::proofs::EntryLemmas::first_then_rest))]
     fn read(&mut self, piece: &mut [u8]) -> Result<usize, PortFault>
         ensures bound { IfOk result (λ count. count ≤ length piece.new) }
-        ensures cause { ReadCause (faults_counted self.old) (faults_counted self.new) result }
-        ensures told { Reads piece.new result (shelf_of self.old) (shelf_of self.new) }
+        ensures faults { ReadFaults result (files_state self.old) (files_state self.new) }
+        ensures contents { Reads piece.new result (file_contents self.old) (file_contents self.new) }
         ensures answer { result ≡ (if next_call_fails self.old then Err PortFault.Failed else Ok (min (length (bytes_to_come self.old)) (length piece.old))) }
-        ensures fault { faults_counted self.new ≡ (if next_call_fails self.old then next_number (faults_counted self.old) else faults_counted self.old) }
+        ensures counted { faults_counted self.new ≡ (if next_call_fails self.old then next_number (faults_counted self.old) else faults_counted self.old) }
         ensures calls { calls_made self.new ≡ next_number (calls_made self.old) }
         ensures fails { calls_that_fail self.new ≡ calls_that_fail self.old }
     {
@@ -109,8 +116,9 @@ impl Files for MemFiles {
             return Err(PortFault::Failed);
         }
         let rest = bytes_from(bytes_in(&self.entries, self.opened), self.at);
-        let count = copy_front(rest, piece);
+        let count = copy_first(rest, piece);
         self.at = self.at.saturating_add(count);
+        self.taken = self.taken.saturating_add(count as u64);
         Ok(count)
     }
 }

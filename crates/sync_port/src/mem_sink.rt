@@ -1,4 +1,4 @@
-//! A sink in memory, with room for so many bytes.
+//! A sink in memory, which takes so many bytes.
 
 ghost use Rattle.std.specs.Prelude.{◌≡◌, ◌≢◌, ◌↔◌, ◌-◌, ◌<◌, ◌≤◌, ◌+◌, [], Some, false, length, min, vec_len, vec_capacity, OnErr, IsErr, IfOk, IsTrue, is_ok, if◌then◌else◌};
 
@@ -6,34 +6,34 @@ use crate::{Sink, SinkFailed};
 use std::alloc::Global;
 use sync_path::NoMemory;
 
-/// A sink in memory. It tells what was written.
+/// A sink in memory, whose contents are known.
 #[derive(Drop)]
 pub struct MemSink {
     bytes: Vec<u8>,
-    room: usize,
+    capacity: usize,
     flushed: usize,
     flush_fails: bool,
     faults: u64,
-    ghost within: { vec_len bytes ≤ room },
-    ghost has_room: { room ≤ vec_capacity bytes },
+    ghost within: { vec_len bytes ≤ capacity },
+    ghost has_room: { capacity ≤ vec_capacity bytes },
 }
 
 impl MemSink {
-    ghost use Rattle.sync_port.specs.InMemory.{bytes_written, bytes_flushed, whole_room, flushes_fail, sink_faults};
+    ghost use Rattle.sync_port.specs.InMemory.{bytes_written, bytes_flushed, capacity_of, flushes_fail, sink_faults};
 
     /// A sink that takes `room` bytes in all, and whose flushes all fail or all succeed. It takes the memory
     /// for its bytes at once.
     pub fn new(alloc: Global, room: usize, flush_fails: bool) -> Result<MemSink, NoMemory>
         ensures written { IfOk result (λ s. bytes_written s ≡ []) }
         ensures flushed { IfOk result (λ s. bytes_flushed s ≡ 0) }
-        ensures room { IfOk result (λ s. whole_room s ≡ room) }
+        ensures capacity { IfOk result (λ s. capacity_of s ≡ room) }
         ensures flush_fails { IfOk result (λ s. flushes_fail s ≡ flush_fails) }
         ensures faults { IfOk result (λ s. sink_faults s ≡ 0) }
     {
         let bytes = Vec::with_capacity(alloc, room)?;
         Ok(MemSink {
             bytes,
-            room,
+            capacity: room,
             flushed: 0,
             flush_fails,
             faults: 0,
@@ -49,25 +49,23 @@ impl MemSink {
 }
 
 impl Sink for MemSink {
-    ghost use Rattle.sync_port.specs.Told.{next_number};
-    ghost use Rattle.sync_port.specs.Ports.{SinkCause, WritesSome, Writes, Flushes};
-    ghost use Rattle.sync_port.specs.InMemory.{bytes_written, whole_room, flushes_fail, sink_faults, wrote_of};
+    ghost use Rattle.sync_port.specs.States.{next_number};
+    ghost use Rattle.sync_port.specs.Ports.{SinkFaults, WritesSome, Writes, Flushes};
+    ghost use Rattle.sync_port.specs.InMemory.{bytes_written, capacity_of, flushes_fail, sink_faults, sink_contents, sink_state};
 
-    ghost told = { λ s. Some (wrote_of s) };
-
-    ghost faults = { sink_faults };
+    ghost sink = { sink_state };
 
     fn write(&mut self, piece: &[u8]) -> Result<usize, SinkFailed>
         ensures some { WritesSome piece.now result }
-        ensures cause { SinkCause (sink_faults self.old) (sink_faults self.new) result }
-        ensures told { Writes piece.now result (wrote_of self.old) (wrote_of self.new) }
-        ensures failed { IsErr result ↔ ((0 < length piece.now) × (length (bytes_written self.old) ≡ whole_room self.old)) }
-        ensures count { IfOk result (λ count. count ≡ min (whole_room self.old - length (bytes_written self.old)) (length piece.now)) }
-        ensures fault { sink_faults self.new ≡ (if is_ok result then sink_faults self.old else next_number (sink_faults self.old)) }
-        ensures room { whole_room self.new ≡ whole_room self.old }
+        ensures faults { SinkFaults result (sink_state self.old) (sink_state self.new) }
+        ensures contents { Writes piece.now result (sink_contents self.old) (sink_contents self.new) }
+        ensures failed { IsErr result ↔ ((0 < length piece.now) × (length (bytes_written self.old) ≡ capacity_of self.old)) }
+        ensures count { IfOk result (λ count. count ≡ min (capacity_of self.old - length (bytes_written self.old)) (length piece.now)) }
+        ensures counted { sink_faults self.new ≡ (if is_ok result then sink_faults self.old else next_number (sink_faults self.old)) }
+        ensures capacity { capacity_of self.new ≡ capacity_of self.old }
         ensures flush_fails { flushes_fail self.new ≡ flushes_fail self.old }
     {
-        let count = (self.room - self.bytes.len()).min(piece.len());
+        let count = (self.capacity - self.bytes.len()).min(piece.len());
         if count == 0 && !piece.is_empty() {
             self.faults = self.faults.saturating_add(1);
             return Err(SinkFailed);
@@ -77,11 +75,11 @@ impl Sink for MemSink {
     }
 
     fn flush(&mut self) -> Result<(), SinkFailed>
-        ensures cause { SinkCause (sink_faults self.old) (sink_faults self.new) result }
-        ensures told { Flushes result (wrote_of self.old) (wrote_of self.new) }
+        ensures faults { SinkFaults result (sink_state self.old) (sink_state self.new) }
+        ensures contents { Flushes result (sink_contents self.old) (sink_contents self.new) }
         ensures failed { IsErr result ↔ IsTrue (flushes_fail self.old) }
-        ensures fault { sink_faults self.new ≡ (if is_ok result then sink_faults self.old else next_number (sink_faults self.old)) }
-        ensures room { whole_room self.new ≡ whole_room self.old }
+        ensures counted { sink_faults self.new ≡ (if is_ok result then sink_faults self.old else next_number (sink_faults self.old)) }
+        ensures capacity { capacity_of self.new ≡ capacity_of self.old }
         ensures flush_fails { flushes_fail self.new ≡ flushes_fail self.old }
     {
         if self.flush_fails {

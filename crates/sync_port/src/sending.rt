@@ -2,8 +2,8 @@
 
 ghost use Rattle.sync_path.specs.Escapes.{escaped};
 ghost use Rattle.sync_path.specs.Paths.{path_text};
-ghost use Rattle.sync_port.specs.Told.{Told};
-ghost use Rattle.sync_port.specs.Ports.{SinkCause};
+ghost use Rattle.sync_port.specs.States.{IfKnown};
+ghost use Rattle.sync_port.specs.Ports.{SinkFaults};
 ghost use Rattle.sync_port.specs.Sending.{Sends, Gathers};
 
 use crate::{Sink, SinkFailed};
@@ -13,11 +13,11 @@ use sync_path::{Path, escaped_pieces};
 /// How many bytes are gathered before they are sent.
 const BLOCK: usize = 1024;
 
-/// Appends all the bytes to the sink. After a refusal a front of them was appended, and the refusal comes only
-/// where the call raised the count of faults. What was flushed is as before. It takes no memory.
+/// Appends all the bytes to the sink. After a refusal, which was counted, the first of them were appended. What was
+/// flushed is as before. It takes no memory.
 pub fn send<O: Sink>(sink: &mut O, bytes: &[u8]) -> Result<(), SinkFailed>
-    ensures cause { SinkCause (O.faults sink.old) (O.faults sink.new) result }
-    ensures told { Told (O.told sink.old) (O.told sink.new) (Sends bytes.now result) }
+    ensures faults { SinkFaults result (O.sink sink.old) (O.sink sink.new) }
+    ensures contents { IfKnown (O.sink sink.old) (O.sink sink.new) (Sends bytes.now result) }
 {
     let mut sent = 0;
     'writes: while sent < bytes.len() {
@@ -28,8 +28,8 @@ pub fn send<O: Sink>(sink: &mut O, bytes: &[u8]) -> Result<(), SinkFailed>
 
 /// Appends the path's text to the sink, as `send` does its bytes. It takes no memory.
 pub fn send_path<O: Sink>(sink: &mut O, path: &Path) -> Result<(), SinkFailed>
-    ensures cause { SinkCause (O.faults sink.old) (O.faults sink.new) result }
-    ensures told { Told (O.told sink.old) (O.told sink.new) (Sends (path_text path.now) result) }
+    ensures faults { SinkFaults result (O.sink sink.old) (O.sink sink.new) }
+    ensures contents { IfKnown (O.sink sink.old) (O.sink sink.new) (Sends (path_text path.now) result) }
 {
     let mut gathered = ArrayString::new();
     let depth = path.depth();
@@ -47,8 +47,8 @@ fn gather_name<O: Sink>(
     gathered: &mut ArrayString<BLOCK>,
     name: &[u8],
 ) -> Result<(), SinkFailed>
-    ensures cause { SinkCause (O.faults sink.old) (O.faults sink.new) result }
-    ensures told { Told (O.told sink.old) (O.told sink.new) (Gathers gathered.old.bytes (escaped name.now) gathered.new.bytes result) }
+    ensures faults { SinkFaults result (O.sink sink.old) (O.sink sink.new) }
+    ensures contents { IfKnown (O.sink sink.old) (O.sink sink.new) (Gathers gathered.old.bytes (escaped name.now) gathered.new.bytes result) }
 {
     'pieces: for piece in escaped_pieces(name) {
         gather(sink, gathered, piece)?;
@@ -62,8 +62,8 @@ fn gather<O: Sink>(
     gathered: &mut ArrayString<BLOCK>,
     text: &str,
 ) -> Result<(), SinkFailed>
-    ensures cause { SinkCause (O.faults sink.old) (O.faults sink.new) result }
-    ensures told { Told (O.told sink.old) (O.told sink.new) (Gathers gathered.old.bytes text.now gathered.new.bytes result) }
+    ensures faults { SinkFaults result (O.sink sink.old) (O.sink sink.new) }
+    ensures contents { IfKnown (O.sink sink.old) (O.sink sink.new) (Gathers gathered.old.bytes text.now gathered.new.bytes result) }
 {
     if gathered.try_push_str(text).is_ok() {
         return Ok(());

@@ -1,33 +1,51 @@
 -- The checks of one file: that it is held, its size, and its text.
-use Rattle.std.specs.Prelude.{◌≡◌, ℕ, List, Option, None, Some, Result, Ok, Err, length, nat_lt, if◌then◌else◌}
+use Rattle.std.specs.Prelude.{Vec, ◌≡◌, ℕ, List, true, false, Option, None, Some, Result, Ok, Err, length, nat_lt, if◌then◌else◌}
 use Rattle.sync_path.specs.Paths.{parts}
 use Rattle.sync_command.specs.declared.commands.Row.{Row}
-use Rattle.sync_command.specs.Changes.{Change}
+use Rattle.sync_command.specs.declared.values.Version.{Version}
+use Rattle.log_text.specs.declared.faults.LogFault.{LogFault}
+use Rattle.log_text.specs.declared.faults.LogFault.TheVariants as log
 use Rattle.log_text.specs.declared.faults.TextFault.{TextFault}
-use Rattle.log_text.specs.Logs.{log_of}
 use Rattle.log_text.specs.Snapshots.{snapshot_of}
-use Rattle.sync_port.specs.Ports.{Names}
-use Rattle.treesync.specs.Answers.{Then}
+use Rattle.treesync.specs.Checks.{Check, Judged, Then}
+use Rattle.treesync.specs.declared.input.TheConstants.{FILE_LIMIT}
 use Rattle.treesync.specs.declared.refusal.Refusal.{Refusal}
-use Rattle.treesync.specs.declared.refusal.Refusal.TheVariants.{Read, TooLarge, Text}
+use Rattle.treesync.specs.declared.refusal.Refusal.TheVariants.{OutOfMemory, ReadFailed, Found}
+use Rattle.sync_port.specs.declared.faults.PortFault.{PortFault}
+use Rattle.sync_port.specs.declared.faults.PortFault.TheVariants.{Failed}
+use Rattle.sync_port.specs.declared.faults.PortFault.TheVariants as port
+use Rattle.treesync.specs.declared.refusal.Finding.TheVariants.{TooLarge, Text}
 
--- the bytes of the file that a word names, at most 2^28 of them
-abbrev pub file_answer : ℕ → Option (List ℕ) → Result (List ℕ) Refusal
-file_answer word None = Err (Read word)
-file_answer word (Some bytes) = if nat_lt 268435456 (length bytes) then Err (TooLarge word) else Ok bytes
+-- the bytes of the file that a word names, up to the limit
+abbrev pub file_answer : ℕ → ℕ → Option (List ℕ) → Result (List ℕ) Refusal
+file_answer limit word None = Err (ReadFailed word)
+file_answer limit word (Some bytes) = if nat_lt limit (length bytes) then Err (Found (TooLarge word)) else Ok bytes
 
-abbrev pub IsFile : ℕ → List ℕ → Names → Result (List ℕ) Refusal → Type 0
-IsFile word name held answer = answer ≡ file_answer word (held name)
+-- where a call fails, the reading of the file is refused
+abbrev pub IsFile : ℕ → ℕ → List ℕ → Check (List ℕ)
+IsFile limit word name held false answer = answer ≡ file_answer limit word (held name)
+IsFile limit word name held true answer = answer ≡ Err (ReadFailed word)
 
 -- what a text reads as, or the fault of the file that a word names
 abbrev pub text_answer : {A : Type 0} → ℕ → Result A TextFault → Result A Refusal
 text_answer word (Ok a) = Ok a
-text_answer word (Err fault) = Err (Text word fault)
+text_answer word (Err fault) = Err (Found (Text word fault))
 
--- the commands of a log's file
-abbrev pub IsLog : ℕ → List ℕ → Names → Result (List Change) Refusal → Type 0
-IsLog word name = Then (IsFile word name) (λ bytes held answer. answer ≡ text_answer word (log_of (parts 10 bytes)))
+-- what a refused call on the file means
+abbrev pub call_refusal : ℕ → PortFault → Refusal
+call_refusal word Failed = ReadFailed word
+call_refusal word port.Memory = OutOfMemory
 
--- the rows of a snapshot's file
-abbrev pub IsSnapshot : ℕ → List ℕ → Names → Result (List Row) Refusal → Type 0
-IsSnapshot word name = Then (IsFile word name) (λ bytes held answer. answer ≡ text_answer word (snapshot_of (parts 10 bytes)))
+-- what a fault of the text means
+abbrev pub text_refusal : ℕ → LogFault → Refusal
+text_refusal word (log.Text fault) = Found (Text word fault)
+text_refusal word log.Memory = OutOfMemory
+
+-- a version and rows stand for the same with a list
+abbrev pub HasRows : {A : Type 0} → Version × Vec Row A → Version × List Row → Type 0
+HasRows snapshot read = (snapshot.0, snapshot.1.items) ≡ read
+
+-- the version and the rows of a snapshot's file
+abbrev pub IsSnapshot : ℕ → List ℕ → Check (Version × List Row)
+IsSnapshot word name =
+    Then (IsFile FILE_LIMIT word name) (λ bytes. Judged (λ answer. answer ≡ text_answer word (snapshot_of (parts 10 bytes))))

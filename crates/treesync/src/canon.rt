@@ -1,50 +1,46 @@
 //! The command `canon LOG`.
 
-ghost use Rattle.std.specs.Prelude.{◌≡◌};
-ghost use Rattle.treesync.specs.Answers.{Answers, IsJudged};
-ghost use Rattle.treesync.specs.Canon.{IsCanon, IsNet, net_refusal};
+ghost use Rattle.std.specs.Prelude.{◌∷◌, [], ℕ, List};
+ghost use Rattle.treesync.specs.Checks.{Answers, HasItems, IsJudged};
+ghost use Rattle.treesync.specs.Canon.{IsCanon, IsNet};
+ghost use Rattle.treesync.specs.Logs.{IsLogFile, IsTotal, ReadLog};
 
-use crate::Refusal;
-use crate::input::log_file;
-use canon_set::{CanonFault, canon_owned};
+use crate::input::FILE_LIMIT;
+use crate::logs::{LogFile, Total, WHOLE_ROOM, read_log};
+use crate::{Finding, Refusal};
+use canon_set::LogSum;
 use log_text::print_log;
 use std::alloc::Global;
-use sync_command::Command;
-use sync_path::NoMemory;
 use sync_port::Files;
 
-/// Why a log, which the first word behind the command names, has no net set.
-fn refusal_of(fault: CanonFault) -> Refusal
-    ensures { result ≡ net_refusal fault }
+/// The text of the log's net set. The word at the place `word` names the log.
+fn net_text(alloc: Global, word: usize, log: LogFile<Total>) -> Result<Vec<u8>, Refusal>
+    requires { (read : ReadLog) × IsLogFile IsTotal log read }
+    ensures { (read : ReadLog) → IsLogFile IsTotal log read → IsJudged HasItems (IsNet word read) result }
 {
-    match fault {
-        CanonFault::Broken { number } => Refusal::NoTree { word: 1, number },
-        CanonFault::Memory => Refusal::Memory,
-    }
-}
-
-/// The text of the log's net set.
-fn net_text(alloc: Global, commands: Vec<Command>) -> Result<Vec<u8>, Refusal>
-    ensures { IsJudged (λ text. text.items) (IsNet commands.items) result }
-{
-    let set = match canon_owned(alloc, commands) {
-        Ok(set) => set,
-        Err(fault) => return Err(refusal_of(fault)),
+    let set = match log.commands.broken {
+        Some(number) => return Err(Refusal::Found(Finding::NoTree { word, number })),
+        None => log.commands.sum.into_net()?,
     };
     let mut text = Vec::new(alloc);
-    match print_log(&mut text, set.commands()) {
-        Ok(()) => Ok(text),
-        Err(NoMemory) => Err(Refusal::Memory),
-    }
+    print_log(&mut text, log.version, set.commands())?;
+    Ok(text)
 }
 
-/// The net set of the log in the file `log`, as a log's text.
-#[tactic(auto, using(crate::proofs::Checks::then_judged, crate::proofs::Checks::then_refused))]
-pub fn canon<F: Files>(alloc: Global, log: &str, files: &mut F) -> Result<Vec<u8>, Refusal>
-    ensures { Answers (λ text. text.items) (IsCanon log.now) (F.told files.old) (F.told files.new) (F.faults files.old) (F.faults files.new) result }
+/// The net set of the log in the file `name`, which the word at the place `word` names, as a log's text.
+#[tactic(auto, using(crate::proofs::CheckLemmas::then_judged, crate::proofs::CheckLemmas::then_handed_on))]
+pub fn canon<F: Files>(
+    alloc: Global,
+    word: usize,
+    name: &str,
+    files: &mut F,
+) -> Result<Vec<u8>, Refusal>
+    ensures { Answers HasItems (IsCanon word name.now) (FILE_LIMIT ∷ []) (F.files files.old) (F.files files.new) result }
 {
-    match log_file(alloc, 1, log, files) {
-        Ok(commands) => net_text(alloc, commands),
-        Err(refusal) => Err(refusal),
-    }
+    let sum = Total {
+        sum: LogSum::new(alloc),
+        broken: None,
+    };
+    let log = read_log(alloc, word, name, WHOLE_ROOM, files, sum)?;
+    net_text(alloc, word, log)
 }

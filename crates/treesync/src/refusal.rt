@@ -1,14 +1,29 @@
 //! Why a job is refused. A file is named by the place of its word, and a command by its number.
 
-use log_text::TextFault;
+ghost use Rattle.std.specs.Prelude.{◌≡◌};
+ghost use Rattle.treesync.specs.declared.refusal.Refusal.TheVariants.{OutOfMemory};
 
-/// Why a job is refused. Words count from 0, lines and commands from 1.
-#[derive(Clone, Copy, Debug, PartialEq, Eq)]
+use log_text::TextFault;
+use sync_path::NoMemory;
+
+/// Why a job is refused. A kind of refusal stands here by how it is shown to be right: what is wrong with the words
+/// or with what was read follows from them, a call that failed was counted, and memory may run out at any time.
+/// Words count from 0.
+#[derive(Debug, Drop)]
 pub enum Refusal {
     /// The words are no job.
-    Words,
+    InvalidArguments,
+    /// Memory ran out.
+    OutOfMemory,
     /// The file could not be read.
-    Read { word: usize },
+    ReadFailed { word: usize },
+    /// What was read is refused.
+    Found(Finding),
+}
+
+/// What is wrong with what was read. Words count from 0, lines and commands from 1.
+#[derive(Debug, Drop)]
+pub enum Finding {
     /// The file is too large.
     TooLarge { word: usize },
     /// The file's text is not in its grammar.
@@ -17,6 +32,12 @@ pub enum Refusal {
     NoTree { word: usize, number: usize },
     /// The tree does not take this command of the log.
     NotTaken { word: usize, number: usize },
-    /// Memory ran out.
-    Memory,
+}
+
+impl From<NoMemory> for Refusal {
+    ghost from_gives = { λ _ refusal. refusal ≡ OutOfMemory };
+
+    fn from(_: NoMemory) -> Refusal {
+        Refusal::OutOfMemory
+    }
 }

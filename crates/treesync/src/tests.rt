@@ -4,7 +4,7 @@ use crate::run;
 use std::alloc::Global;
 use std::process::Abort;
 use std::test::Fail;
-use sync_port::{MemFiles, MemSink};
+use sync_port::{Files, MemFiles, MemSink, PortFault};
 
 /// What a run left.
 #[derive(Drop)]
@@ -25,18 +25,18 @@ fn words_of(alloc: Global, words: &str) -> Result<Vec<String>, Fail> {
     Ok(list)
 }
 
-/// Runs the words over these files, with room in `out` and in `err`.
-fn ran(
+/// Runs the words over these files, with sinks that take so many bytes.
+fn ran<F: Files>(
     alloc: Global,
     words: &str,
-    mut files: MemFiles,
-    room: usize,
-    err_room: usize,
+    files: &mut F,
+    out_takes: usize,
+    err_takes: usize,
 ) -> Result<Outcome, Fail> {
     let words = words_of(alloc, words)?;
-    let mut out = MemSink::new(alloc, room, false)?;
-    let mut err = MemSink::new(alloc, err_room, false)?;
-    let status = run(alloc, &words, &mut files, &mut out, &mut err);
+    let mut out = MemSink::new(alloc, out_takes, false)?;
+    let mut err = MemSink::new(alloc, err_takes, false)?;
+    let status = run(alloc, &words, files, &mut out, &mut err);
     let printed = Vec::from_slice(alloc, out.bytes())?;
     let said = Vec::from_slice(alloc, err.bytes())?;
     Ok(Outcome {
@@ -47,8 +47,8 @@ fn ran(
 }
 
 /// The files `s` and `l1`; an empty text stands for a file that is not held.
-fn files_of(alloc: Global, s: &str, l1: &str, fails: Vec<u64>) -> Result<MemFiles, Fail> {
-    let mut files = MemFiles::new(alloc, fails);
+fn files_of(alloc: Global, s: &str, l1: &str, fails: &[u64]) -> Result<MemFiles, Fail> {
+    let mut files = MemFiles::new(alloc, Vec::from_slice(alloc, fails)?);
     if !s.is_empty() {
         files.add("s", s.as_bytes())?;
     }
@@ -58,55 +58,21 @@ fn files_of(alloc: Global, s: &str, l1: &str, fails: Vec<u64>) -> Result<MemFile
     Ok(files)
 }
 
-/// Runs `replay s l1`, and compares the status and all that was written: the text with status 0, else the line.
-fn replays<R: Abort>(
-    rt: &R,
-    alloc: Global,
-    s: &str,
-    l1: &str,
-    status: u8,
-    written: &str,
-) -> Result<(), Fail> {
-    let files = files_of(alloc, s, l1, Vec::new(alloc))?;
-    let got = ran(alloc, "replay s l1", files, 1000, 1000)?;
-    compare(rt, got, status, written);
-    Ok(())
-}
-
-/// Runs `canon l1` likewise.
-fn sums<R: Abort>(rt: &R, alloc: Global, l1: &str, status: u8, written: &str) -> Result<(), Fail> {
-    let files = files_of(alloc, "", l1, Vec::new(alloc))?;
-    let got = ran(alloc, "canon l1", files, 1000, 1000)?;
-    compare(rt, got, status, written);
-    Ok(())
-}
-
-/// Runs words over no files likewise.
-fn asks<R: Abort>(
-    rt: &R,
-    alloc: Global,
-    words: &str,
-    status: u8,
-    written: &str,
-) -> Result<(), Fail> {
-    let files = files_of(alloc, "", "", Vec::new(alloc))?;
-    let got = ran(alloc, words, files, 1000, 1000)?;
-    compare(rt, got, status, written);
-    Ok(())
-}
-
-fn compare<R: Abort>(rt: &R, got: Outcome, status: u8, written: &str) {
-    assert_eq!(rt; got.status, status, "{written}");
+/// Compares the status and all that was written: the text with status 0, else the line.
+fn compare<R: Abort>(rt: &R, got: &Outcome, status: u8, written: &[u8]) {
+    assert_eq!(rt; got.status, status);
     let (gained, empty) = if status == 0 {
         (&got.printed, &got.said)
     } else {
         (&got.said, &got.printed)
     };
-    assert_eq!(rt; gained.as_slice(), written.as_bytes());
-    assert_eq!(rt; empty.len(), 0, "{written}");
+    assert!(rt; gained.as_slice() == written);
+    assert_eq!(rt; empty.len(), 0);
 }
 
-const EMPTY: &str = "treesnap 1\nend 0\n";
+const NO_ROWS: &str = "treesnap 1\nend 0\n";
+
+const NO_COMMANDS: &str = "treelog 1\nend 0\n";
 
 const TWO_MADE: &str = "treelog 1\na - d\na/x - f:1\nend 2\n";
 
@@ -114,244 +80,185 @@ const TORN: &str = "treelog 1\na f:1 f:2\na f:3 f:4\nend 2\n";
 
 const FILE_A: &str = "treesnap 1\na f:1\nend 1\n";
 
+/// Words, the files `s` and `l1`, the status, and what is written.
 #[test]
-fn replays_and_names_the_command_at_fault(rt: HostRuntime) -> Result<(), Fail> {
-    let alloc = rt.alloc();
-    replays(
-        &rt,
-        alloc,
-        EMPTY,
-        TWO_MADE,
-        0,
-        "treesnap 1\na d\na/x f:1\nend 2\n",
-    )?;
-    replays(
-        &rt,
-        alloc,
-        EMPTY,
-        "treelog 1\na/x - f:1\nend 1\n",
-        17,
-        "treesync: l1: line 2: not taken\n",
-    )?;
-    replays(
-        &rt,
-        alloc,
-        FILE_A,
-        TORN,
-        17,
-        "treesync: l1: line 3: not taken\n",
-    )?;
-    let ordered = "treesnap 1\na d\na/b f:\na-b f:1\nend 3\n";
-    replays(&rt, alloc, ordered, "treelog 1\nend 0\n", 0, ordered)?;
-    let turned = "treesnap 1\na d\na-b f:1\na/b f:\nend 3\n";
-    replays(
-        &rt,
-        alloc,
-        turned,
-        "treelog 1\nend 0\n",
-        5,
-        "treesync: s: line 4: order\n",
-    )
-}
-
-#[test]
-fn sums_up_a_log(rt: HostRuntime) -> Result<(), Fail> {
-    let alloc = rt.alloc();
-    sums(
-        &rt,
-        alloc,
-        "treelog 1\na/x f:1 f:2\na/x f:2 f:3\nend 2\n",
-        0,
-        "treelog 1\na/x f:1 f:3\nend 1\n",
-    )?;
-    sums(
-        &rt,
-        alloc,
-        "treelog 1\nt - f:1\nt f:1 -\nend 2\n",
-        0,
-        "treelog 1\nend 0\n",
-    )?;
-    sums(
-        &rt,
-        alloc,
-        "treelog 1\na/x f:1 -\na d -\na - f:2\nend 3\n",
-        0,
-        "treelog 1\na/x f:1 -\na d f:2\nend 2\n",
-    )?;
-    sums(
-        &rt,
-        alloc,
-        TORN,
-        6,
-        "treesync: l1: line 3: no tree takes this log\n",
-    )?;
-    sums(
-        &rt,
-        alloc,
-        "treelog 1\nend - d\nend 1\n",
-        0,
-        "treelog 1\nend - d\nend 1\n",
-    )
-}
-
-#[test]
-fn texts_are_judged(rt: HostRuntime) -> Result<(), Fail> {
-    let alloc = rt.alloc();
-    sums(
-        &rt,
-        alloc,
-        "treelog 1\na - d\n",
-        5,
-        "treesync: l1: line 3: end\n",
-    )?;
-    sums(
-        &rt,
-        alloc,
-        "treelog 1\na - d\nb - d\nend 3\n",
-        5,
-        "treesync: l1: line 4: count\n",
-    )?;
-    sums(
-        &rt,
-        alloc,
-        "treelog 1\na%2fb - d\nend 1\n",
-        5,
-        "treesync: l1: line 2: path\n",
-    )?;
-    replays(
-        &rt,
-        alloc,
-        "x",
-        TWO_MADE,
-        5,
-        "treesync: s: line 1: header\n",
-    )?;
-    replays(&rt, alloc, "", TWO_MADE, 3, "treesync: s: read failed\n")
-}
-
-#[test]
-fn odd_bytes_are_named(rt: HostRuntime) -> Result<(), Fail> {
-    let alloc = rt.alloc();
-    sums(
-        &rt,
-        alloc,
-        "treelog 1\r\nend 0\r\n",
-        5,
-        "treesync: l1: line 1: header\n",
-    )?;
-    sums(
-        &rt,
-        alloc,
-        "treelog 1\na - d\r\nend 1\n",
-        5,
-        "treesync: l1: line 2: value\n",
-    )?;
-    sums(
-        &rt,
-        alloc,
-        "treelog 1\n\nend 0\n",
-        5,
-        "treesync: l1: line 2: fields\n",
-    )?;
-    sums(
-        &rt,
-        alloc,
-        "treelog 1\na% - d\nend 1\n",
-        5,
-        "treesync: l1: line 2: path\n",
-    )?;
-    sums(
-        &rt,
-        alloc,
-        "treelog 1\n%41 - d\nend 1\n",
-        5,
-        "treesync: l1: line 2: path\n",
-    )?;
-    sums(
-        &rt,
-        alloc,
-        "treelog 1\n\u{e9} - d\nend 1\n",
-        5,
-        "treesync: l1: line 2: path\n",
-    )?;
-    sums(
-        &rt,
-        alloc,
-        "treelog 1\n.sync-x - d\nend 1\n",
-        5,
-        "treesync: l1: line 2: path\n",
-    )
-}
-
-#[test]
-fn words_are_judged_first(rt: HostRuntime) -> Result<(), Fail> {
+fn jobs_have_their_answers(rt: HostRuntime) -> Result<(), Fail> {
     let alloc = rt.alloc();
     let help = "usage: treesync COMMAND WORDS\n  replay SNAP LOG\n  canon LOG\n";
-    asks(&rt, alloc, "help", 0, help)?;
-    asks(&rt, alloc, "--help", 0, help)?;
-    asks(&rt, alloc, "", 2, "treesync: words refused\n")?;
-    asks(&rt, alloc, "frob", 2, "treesync: words refused\n")?;
-    asks(&rt, alloc, "replay s", 2, "treesync: words refused\n")?;
-    asks(
-        &rt,
-        alloc,
-        "canon /dev/stdin",
-        3,
-        "treesync: /dev/stdin: read failed\n",
-    )
-}
-
-#[test]
-fn short_sinks_take_a_front(rt: HostRuntime) -> Result<(), Fail> {
-    let alloc = rt.alloc();
-    let got = ran(
-        alloc,
-        "replay s l1",
-        files_of(alloc, EMPTY, TWO_MADE, Vec::new(alloc))?,
-        5,
-        1000,
-    )?;
-    assert_eq!(rt; got.status, 4);
-    assert_eq!(rt; got.printed.as_slice(), b"trees".as_slice());
-    assert_eq!(rt; got.said.as_slice(), b"treesync: write failed\n".as_slice());
-    // Whatever of its line `err` takes, the status stays.
-    let line = "treesync: l1: line 3: not taken\n";
-    for room in 0..line.len() {
-        let got = ran(
-            alloc,
-            "replay s l1",
-            files_of(alloc, FILE_A, TORN, Vec::new(alloc))?,
-            1000,
-            room,
-        )?;
-        assert_eq!(rt; got.status, 17);
-        assert_eq!(rt; got.said.len(), room);
-        assert!(rt; line.as_bytes().starts_with(&got.said));
+    let refused = "treesync: words refused\n";
+    let ordered = "treesnap 1\na d\na/b f:\na-b f:1\nend 3\n";
+    let turned = "treesnap 1\na d\na-b f:1\na/b f:\nend 3\n";
+    let depth = "treelog 1\na - d\na/b - d\na/b/c - d\na/b/c/d - f:1\na/b/c f:2 -\nend 5\n";
+    for (words, s, l1, status, written) in [
+        ("help", "", "", 0, help),
+        ("--help", "", "", 0, help),
+        ("", "", "", 2, refused),
+        ("frob", "", "", 2, refused),
+        ("replay s", "", "", 2, refused),
+        ("replay s l1 l1", NO_ROWS, TWO_MADE, 2, refused),
+        ("canon /dev/stdin", "", "", 3, "treesync: /dev/stdin: read failed\n"),
+        ("replay s l1", "", TWO_MADE, 3, "treesync: s: read failed\n"),
+        ("replay s l1", NO_ROWS, "", 3, "treesync: l1: read failed\n"),
+        ("replay s l1", NO_ROWS, TWO_MADE, 0, "treesnap 1\na d\na/x f:1\nend 2\n"),
+        ("replay s l1", NO_ROWS, "treelog 1\na/x - f:1\nend 1\n", 17, "treesync: l1: line 2: not taken\n"),
+        ("replay s l1", FILE_A, TORN, 17, "treesync: l1: line 3: not taken\n"),
+        ("replay s l1", ordered, NO_COMMANDS, 0, ordered),
+        ("replay s l1", turned, NO_COMMANDS, 5, "treesync: s: line 4: order\n"),
+        ("replay s l1", "x", TWO_MADE, 5, "treesync: s: line 1: header\n"),
+        ("replay s l1", "treesnap 1\na -\nend 1\n", NO_COMMANDS, 5, "treesync: s: line 2: empty\n"),
+        ("replay s l1", "treesnap 1\na/x f:1\nend 1\n", NO_COMMANDS, 5, "treesync: s: line 2: parent\n"),
+        ("replay s l1", "treesnap 2\na d:x\nend 1\n", "treelog 1\na/b - d\nend 1\n", 0, "treesnap 2\na d:x\na/b d\nend 2\n"),
+        ("replay s l1", NO_ROWS, "treelog 2\na - d\nend 1\n", 0, "treesnap 2\na d\nend 1\n"),
+        ("canon l1", "", "treelog 1\na/x f:1 f:2\na/x f:2 f:3\nend 2\n", 0, "treelog 1\na/x f:1 f:3\nend 1\n"),
+        ("canon l1", "", "treelog 1\nt - f:1\nt f:1 -\nend 2\n", 0, NO_COMMANDS),
+        ("canon l1", "", "treelog 1\na/x f:1 -\na d -\na - f:2\nend 3\n", 0, "treelog 1\na/x f:1 -\na d f:2\nend 2\n"),
+        ("canon l1", "", "treelog 1\nend - d\nend 1\n", 0, "treelog 1\nend - d\nend 1\n"),
+        ("canon l1", "", "treelog 2\na d:x d:y\na d:y d\nend 2\n", 0, "treelog 2\na d:x d\nend 1\n"),
+        ("canon l1", "", "treelog 2\nend 0\n", 0, "treelog 2\nend 0\n"),
+        ("canon l1", "", TORN, 6, "treesync: l1: line 3: no tree takes this log\n"),
+        ("canon l1", "", depth, 6, "treesync: l1: line 6: no tree takes this log\n"),
+        ("canon l1", "", "treelog 1\na f:1 f:2\na f:3 f:4\nfrob\nend 3\n", 5, "treesync: l1: line 4: fields\n"),
+        ("canon l1", "", "treelog 1\na - d\n", 5, "treesync: l1: line 3: end\n"),
+        ("canon l1", "", "treelog 1\na - d\nb - d\nend 3\n", 5, "treesync: l1: line 4: count\n"),
+        ("canon l1", "", "treelog 1\na - d\nend 01\n", 5, "treesync: l1: line 3: count\n"),
+        ("canon l1", "", "treelog 1\nend 0\nend 0\n", 5, "treesync: l1: line 3: after\n"),
+        ("canon l1", "", "treelog 1\na%2fb - d\nend 1\n", 5, "treesync: l1: line 2: path\n"),
+        ("canon l1", "", "treelog 1\n\u{e9} - d\nend 1\n", 5, "treesync: l1: line 2: path\n"),
+        ("canon l1", "", "treelog 1\r\nend 0\r\n", 5, "treesync: l1: line 1: header\n"),
+        ("canon l1", "", "treelog 1\n\nend 0\n", 5, "treesync: l1: line 2: fields\n"),
+        ("canon l1", "", "treelog 1\na x d\nend 1\n", 5, "treesync: l1: line 2: value\n"),
+        ("canon l1", "", "treelog 1\na d d\nend 1\n", 5, "treesync: l1: line 2: same\n"),
+        ("canon l1", "", "treelog 1\na - d:x\nend 1\n", 5, "treesync: l1: line 2: value\n"),
+        ("canon l1", "", "treelog 2\na - d:\nend 1\n", 5, "treesync: l1: line 2: value\n"),
+    ] {
+        let mut files = files_of(alloc, s, l1, &[])?;
+        let got = ran(alloc, words, &mut files, 1000, 1000)?;
+        compare(&rt, &got, status, written.as_bytes());
     }
     Ok(())
 }
 
 #[test]
-fn each_failing_call_is_a_failed_read(rt: HostRuntime) -> Result<(), Fail> {
+fn short_sinks_take_the_first_bytes(rt: HostRuntime) -> Result<(), Fail> {
     let alloc = rt.alloc();
-    let mut failed = 0;
-    for number in 1..20u64 {
-        let mut fails = Vec::new(alloc);
-        fails.push(number)?;
-        let got = ran(
-            alloc,
-            "replay s l1",
-            files_of(alloc, EMPTY, TWO_MADE, fails)?,
-            1000,
-            1000,
-        )?;
-        if got.status == 0 {
-            break;
-        }
-        failed = number;
-        assert_eq!(rt; got.status, 3);
-        assert_eq!(rt; got.printed.len(), 0);
+    let mut files = files_of(alloc, "", NO_COMMANDS, &[])?;
+    let got = ran(alloc, "canon l1", &mut files, 5, 1000)?;
+    assert_eq!(rt; got.status, 4);
+    assert_eq!(rt; got.printed.as_slice(), b"treel".as_slice());
+    assert_eq!(rt; got.said.as_slice(), b"treesync: write failed\n".as_slice());
+    // Whatever of its line `err` takes, the status stays.
+    let line = "treesync: l1: line 3: not taken\n";
+    for takes in [0, 1, line.len() - 1] {
+        let mut files = files_of(alloc, FILE_A, TORN, &[])?;
+        let got = ran(alloc, "replay s l1", &mut files, 1000, takes)?;
+        assert_eq!(rt; got.status, 17);
+        assert_eq!(rt; got.said.len(), takes);
+        assert!(rt; line.as_bytes().starts_with(&got.said));
     }
-    assert!(rt; failed >= 4);
+    Ok(())
+}
+
+/// Each file is opened once, and read until nothing comes: a call that fails is one on the file whose turn it is.
+#[test]
+fn a_failing_call_names_its_file(rt: HostRuntime) -> Result<(), Fail> {
+    let alloc = rt.alloc();
+    for (number, name) in [(1, "s"), (2, "s"), (3, "s"), (4, "l1"), (5, "l1"), (6, "l1")] {
+        let mut files = files_of(alloc, NO_ROWS, TWO_MADE, &[number])?;
+        let got = ran(alloc, "replay s l1", &mut files, 1000, 1000)?;
+        let line = format!(in alloc; "treesync: {name}: read failed\n")?;
+        compare(&rt, &got, 3, line.as_bytes());
+    }
+    // A fault of the text yields to a reading that fails later.
+    let mut files = files_of(alloc, "", "frob\n", &[3])?;
+    let got = ran(alloc, "canon l1", &mut files, 1000, 1000)?;
+    compare(&rt, &got, 3, b"treesync: l1: read failed\n");
+    let mut files = files_of(alloc, NO_ROWS, TWO_MADE, &[7])?;
+    assert_eq!(rt; ran(alloc, "replay s l1", &mut files, 1000, 1000)?.status, 0);
+    Ok(())
+}
+
+/// Files that give line feeds without end.
+struct EndlessFiles;
+
+impl Files for EndlessFiles {
+    ghost use Rattle.sync_port.specs.States.{unknown_but};
+
+    ghost files = { λ _. unknown_but 0 };
+
+    fn open(&mut self, _name: &str) -> Result<(), PortFault> {
+        Ok(())
+    }
+
+    fn read(&mut self, piece: &mut [u8]) -> Result<usize, PortFault> {
+        piece.fill(b'\n');
+        Ok(piece.len())
+    }
+}
+
+/// Limits at their numbers: what is within is answered, and what is past is refused by its own name.
+#[test]
+fn limits_hold_at_their_numbers(rt: HostRuntime) -> Result<(), Fail> {
+    let alloc = rt.alloc();
+    let got = ran(alloc, "canon l1", &mut EndlessFiles, 1000, 1000)?;
+    compare(&rt, &got, 12, b"treesync: l1: too large\n");
+    for (names, status) in [(64, 0), (65, 5)] {
+        let mut text = Vec::from_slice(alloc, b"treelog 1\na")?;
+        for _ in 1..names {
+            text.extend_from_slice(b"/a")?;
+        }
+        text.extend_from_slice(b" - d\nend 1\n")?;
+        let written: &[u8] = if status == 0 { &text } else { b"treesync: l1: line 2: path\n" };
+        let mut files = files_of(alloc, "", "", &[])?;
+        files.add("l1", &text)?;
+        let got = ran(alloc, "canon l1", &mut files, 1000, 1000)?;
+        compare(&rt, &got, status, written);
+    }
+    let mut text = Vec::from_slice(alloc, b"treelog 1\n")?;
+    for _ in 0..500 {
+        text.extend_from_slice(b"t - d\nt d -\n")?;
+    }
+    text.extend_from_slice(b"end 1000\n")?;
+    let mut files = files_of(alloc, "", "", &[])?;
+    files.add("l1", &text)?;
+    let got = ran(alloc, "canon l1", &mut files, 1000, 1000)?;
+    compare(&rt, &got, 0, NO_COMMANDS.as_bytes());
+    Ok(())
+}
+
+#[test]
+fn a_file_of_the_largest_size_is_printed_back(rt: HostRuntime) -> Result<(), Fail> {
+    let alloc = rt.alloc();
+    for (size, status) in [(16_777_216, 0), (16_777_217, 5)] {
+        let mut text = Vec::from_slice(alloc, b"treelog 1\na - f:")?;
+        let bytes = vec![in alloc; b'1'; size]?;
+        text.extend_from_slice(&bytes)?;
+        text.extend_from_slice(b"\nend 1\n")?;
+        let written: &[u8] = if status == 0 { &text } else { b"treesync: l1: line 2: value\n" };
+        let mut files = files_of(alloc, "", "", &[])?;
+        files.add("l1", &text)?;
+        let got = ran(alloc, "canon l1", &mut files, 16_800_000, 1000)?;
+        compare(&rt, &got, status, written);
+    }
+    Ok(())
+}
+
+#[test]
+fn a_log_has_at_most_its_number_of_commands(rt: HostRuntime) -> Result<(), Fail> {
+    let alloc = rt.alloc();
+    for (more, end, status, written) in [
+        ("", "end 1048576\n", 0, NO_COMMANDS),
+        ("t - d\n", "end 1048577\n", 5, "treesync: l1: line 1048578: too-many\n"),
+    ] {
+        let mut text = Vec::from_slice(alloc, b"treelog 1\n")?;
+        for _ in 0..524_288 {
+            text.extend_from_slice(b"t - d\nt d -\n")?;
+        }
+        text.extend_from_slice(more.as_bytes())?;
+        text.extend_from_slice(end.as_bytes())?;
+        let mut files = files_of(alloc, "", "", &[])?;
+        files.add("l1", &text)?;
+        let got = ran(alloc, "canon l1", &mut files, 1000, 1000)?;
+        compare(&rt, &got, status, written.as_bytes());
+    }
     Ok(())
 }

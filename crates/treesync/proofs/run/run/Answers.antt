@@ -1,6 +1,24 @@
 use Rattle.std.proofs.Common.{map, string_bytes}
+use Rattle.tool_words.specs.Jobs.{job_of}
 use Rattle.treesync.proofs.Unique.{answer_one}
+use Rattle.treesync.proofs.Words.{found_allowed, found_later, found_reads, seen_text}
 use Rattle.treesync.proofs.run.run.Goals as goal
 
 pub returns-clause-one : goal.returns-clause-one
 returns-clause-one g c = answer_one (map string_bytes c.args.words.now)
+
+pub returns-clause-ran : goal.returns-clause-ran
+returns-clause-ran g c = record {
+  answer = seen_text c.words_answer-answer.result;
+  allowed = found_allowed (job_of (map string_bytes c.args.words.now)) (g.F.Files.files c.args.files.now) (g.F.Files.files c.words_answer-answer.new.files) c.words_answer-answer.result c.words_answer-answer.ensures;
+  prints = c.report.ensures.prints;
+  says = c.report.ensures.says;
+}
+
+pub returns-clause-keeps : goal.returns-clause-keeps
+returns-clause-keeps g c = record {
+  files = found_later (job_of (map string_bytes c.args.words.now)) (g.F.Files.files c.args.files.now) (g.F.Files.files c.words_answer-answer.new.files) c.words_answer-answer.result c.words_answer-answer.ensures;
+  out = c.report.ensures.out;
+  err = c.report.ensures.err;
+  reads = found_reads (job_of (map string_bytes c.args.words.now)) (g.F.Files.files c.args.files.now) (g.F.Files.files c.words_answer-answer.new.files) c.words_answer-answer.result c.words_answer-answer.ensures;
+}

@@ -1,0 +1,38 @@
+-- One more write of a text, and one more piece of a file.
+use Rattle.std.proofs.Common.{◌≡◌, ℕ, List, [], ◌+◌, ◌++◌, ◌≤◌, take, drop, length, length-append, length-take, Some, Ok, Option, ap, ◌∙◌, sym, take-add, arith}
+use Rattle.std.proofs.lemmas.List.{append_assoc}
+use Rattle.sync_port.specs.States.{IfBoth, next_number}
+use Rattle.sync_port.specs.Ports.{FileContents, SinkContents, Opens, Reads, Writes}
+use Rattle.sync_port.proofs.Known.{both_more, both_then}
+
+-- one more write of what is left
+pub sends_more : (before mid after : Option SinkContents) (bytes : List ℕ) (sent n : ℕ) →
+    IfBoth before mid (λ m k. (k.written ≡ m.written ++ take sent bytes) × (k.flushed ≡ m.flushed)) →
+    IfBoth mid after (Writes (drop sent bytes) (Ok n)) →
+    IfBoth before after (λ m k. (k.written ≡ m.written ++ take (sent + n) bytes) × (k.flushed ≡ m.flushed))
+sends_more before mid after bytes sent n h w = both_then before mid after h w (λ m k j p q. (
+  q.0 ∙ ap (λ t. t ++ take n (drop sent bytes)) p.0 ∙ append_assoc m.written (take sent bytes) (take n (drop sent bytes))
+      ∙ ap (λ t. m.written ++ t) (sym (take-add sent n bytes)),
+  q.1 ∙ p.1,
+))
+
+-- ---- pieces of a file
+
+-- these bytes were read of the file since it was opened
+pub record HasRead (name read : List ℕ) (m k : FileContents) : Type 0 where
+  pub held : k.held ≡ m.held
+  pub bytes : m.held name ≡ Some (read ++ k.to_come)
+  pub opened : k.opened ≡ next_number m.opened
+  pub taken : k.taken ≤ m.taken + length read
+
+pub nothing_read : {T : Type 0} (a b : Option FileContents) (name : List ℕ) (done : T) → IfBoth a b (Opens name (Ok done)) → IfBoth a b (HasRead name [])
+nothing_read a b name done h = both_more a b h (λ m k p. record { held = p.held; bytes = p.to_come; opened = p.opened; taken = omega (arith, p.taken) })
+
+pub more_read : (a b c : Option FileContents) (name read buffer now : List ℕ) (count : ℕ) → count ≤ length buffer → now ≡ read ++ take count buffer →
+    IfBoth a b (HasRead name read) → IfBoth b c (Reads buffer (Ok count)) → IfBoth a c (HasRead name now)
+more_read a b c name read buffer now count within same h p = both_then a b c h p (λ m k j q r. record {
+  held = r.held ∙ q.held;
+  bytes = q.bytes ∙ ap (λ t. Some (read ++ t)) r.to_come ∙ ap Some (sym (append_assoc read (take count buffer) j.to_come)) ∙ ap (λ t. Some (t ++ j.to_come)) (sym same);
+  opened = r.opened ∙ q.opened;
+  taken = omega (arith, r.taken, q.taken, ap length same, length-append read (take count buffer), length-take count buffer);
+})

@@ -1,0 +1,35 @@
+use Rattle.std.proofs.Common.{◌≡◌, ◌+◌, ◌-◌, ◌<◌, ◌≤◌, ◌++◌, List, ℕ, [], ◌∷◌, length, take, arith, rules, length-append, length-take, subst}
+use Rattle.sync_path.specs.Paths.{parts}
+use Rattle.log_text.specs.Logs.{log_of}
+use Rattle.treesync.specs.Files.{IsFile}
+use Rattle.treesync.specs.Logs.{IsFed, IsLogFile, log_answer}
+use Rattle.treesync.proofs.CheckLemmas.{then_judged}
+use Rattle.treesync.proofs.FileReading.{AreBytes, all_read, read_more}
+use Rattle.treesync.proofs.LogReading.{judged_same}
+use Rattle.treesync.proofs.logs.read_log.Goals as goal
+
+pub returns-then-count-eq0 : goal.returns-then-count-eq0
+returns-then-count-eq0 g c =
+    let r = c.pieces.invariant.read in
+    let some : 0 < length c.read_piece.new.buffer = first_of (search rules, omega (arith, c.in-Ok.ensures.length)) in
+    let within : length r.0 ≤ c.args.room.bytes = omega (arith, r.1, c.pieces-test.true) in
+    then_judged AreBytes (IsLogFile g.T.TakesCommands.stands) (IsFile c.args.room.bytes c.args.word c.args.name.now)
+    (λ bytes answer. answer ≡ log_answer c.args.room.commands c.args.word (length bytes) (log_of (parts 10 bytes)))
+    (c.args.room.bytes ∷ []) (g.F.Files.files c.args.files.now) (g.F.Files.files c.read_piece.new.files) r.0 c.end_log.result
+    (all_read c.args.room.bytes c.args.word c.args.name.now r.0 c.read_piece.new.buffer c.in-Ok.count (g.F.Files.files c.args.files.now) (g.F.Files.files c.pieces.files) (g.F.Files.files c.read_piece.new.files)
+    c.if-count-eq0.true some within r.3 c.in-Ok.ensures.faults c.in-Ok.ensures.contents)
+    (λ a e. judged_same g.T.TakesCommands.stands c.args.word c.args.room.commands c.pieces.size r.0 a c.end_log.result e r.1 (c.end_log.ensures r.0 r.2 r.1))
+
+pub pieces-preserved : goal.pieces-preserved
+pieces-preserved g c =
+    let r = c.pieces.invariant.read in
+    record {
+      within = omega (arith, c.in-Ok.ensures.limit);
+      read = (
+        r.0 ++ take c.in-Ok.count c.read_piece.new.buffer,
+        omega (arith, r.1, c.in-Ok.ensures.bound, length-append r.0 (take c.in-Ok.count c.read_piece.new.buffer), length-take c.in-Ok.count c.read_piece.new.buffer),
+        c.in_ok-feed.ensures r.0 r.2,
+        read_more c.args.name.now r.0 c.read_piece.new.buffer c.in-Ok.count (g.F.Files.files c.args.files.now) (g.F.Files.files c.pieces.files) (g.F.Files.files c.read_piece.new.files)
+            c.in-Ok.ensures.bound r.3 c.in-Ok.ensures.faults c.in-Ok.ensures.contents,
+      );
+    }

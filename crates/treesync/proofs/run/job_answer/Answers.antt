@@ -1,0 +1,8 @@
+use Rattle.treesync.proofs.run.job_answer.Goals as goal
+
+pub returns-in-Replay : goal.returns-in-Replay
+returns-in-Replay g c =
+    rw (c.in-Replay.is, ← c.place-snap_word.ensures, ← c.place-log_word.ensures, ← c.as_str.ensures, ← c.as_str-in-Replay.ensures) c.replay.ensures
+
+pub returns-in-Canon : goal.returns-in-Canon
+returns-in-Canon g c = rw (c.in-Canon.is, ← c.place.ensures, ← c.as_str-in-Canon.ensures) c.canon.ensures

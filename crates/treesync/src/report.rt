@@ -1,0 +1,221 @@
+//! The one place that prints an answer and gives its status.
+
+ghost use Rattle.std.specs.Prelude.{◌≡◌, ◌+◌, ◌++◌, ◌≤◌, ◌<◌, ◌^◌, codes, decimal, map, string_bytes};
+ghost use Rattle.sync_port.specs.States.{IfKnown};
+ghost use Rattle.sync_port.specs.Ports.{SinkFaults};
+ghost use Rattle.sync_port.specs.Sending.{Sends};
+ghost use Rattle.treesync.specs.Ends.{Prints, PrintsAll, Says, line_of};
+ghost use Rattle.treesync.specs.Messages.{status_of, finding_status, message_of, finding_message, what_line, file_line, numbered_line, word_at, kind_name};
+ghost use Rattle.treesync.specs.Checks.{seen};
+ghost use Rattle.std.specs.List.{concat};
+
+use crate::{Finding, Refusal};
+use itoa::Buffer;
+use log_text::TextKind;
+use sync_port::{Sink, SinkFailed, send};
+use tool_words::texts;
+
+/// The status of a finding.
+fn finding_status(finding: &Finding) -> u8
+    ensures { result ≡ finding_status finding.now }
+{
+    match finding {
+        Finding::Text { .. } => 5,
+        Finding::NoTree { .. } => 6,
+        Finding::TooLarge { .. } => 12,
+        Finding::NotTaken { .. } => 17,
+    }
+}
+
+/// The status of a refusal.
+fn status(refusal: &Refusal) -> u8
+    ensures { result ≡ status_of refusal.now }
+{
+    match refusal {
+        Refusal::InvalidArguments => 2,
+        Refusal::ReadFailed { .. } => 3,
+        Refusal::OutOfMemory => 16,
+        Refusal::Found(finding) => finding_status(finding),
+    }
+}
+
+/// The printed word of a fault's kind.
+fn kind_text(kind: TextKind) -> &'static str
+    ensures { result.now ≡ kind_name kind }
+{
+    match kind {
+        TextKind::Header => texts::HEADER,
+        TextKind::Fields => texts::FIELDS,
+        TextKind::TooMany => texts::TOO_MANY,
+        TextKind::TooWide => texts::TOO_WIDE,
+        TextKind::Number => texts::NUMBER,
+        TextKind::Path => texts::PATH,
+        TextKind::Value => texts::VALUE,
+        TextKind::Same => texts::SAME,
+        TextKind::Empty => texts::EMPTY,
+        TextKind::Order => texts::ORDER,
+        TextKind::Parent => texts::PARENT,
+        TextKind::End => texts::END,
+        TextKind::Count => texts::COUNT,
+        TextKind::After => texts::AFTER,
+    }
+}
+
+/// The word at a place, and no text past the last word.
+#[tactic(auto, using(crate::proofs::Sending::word_here, crate::proofs::Sending::no_word))]
+fn word_text(words: &[String], place: usize) -> &str
+    ensures { result.now ≡ word_at (map string_bytes words.now) place }
+{
+    if place < words.len() {
+        words[place].as_str()
+    } else {
+        ""
+    }
+}
+
+/// Sends texts one after another.
+fn send_all<E: Sink>(err: &mut E, texts: &[&[u8]]) -> Result<(), SinkFailed>
+    ensures faults { SinkFaults result (E.sink err.old) (E.sink err.new) }
+    ensures contents { IfKnown (E.sink err.old) (E.sink err.new) (Sends (concat (map (λ text. text.now) texts.now)) result) }
+{
+    'texts: for text in texts {
+        send(err, text)?;
+    }
+    Ok(())
+}
+
+/// Sends the line `treesync: WHAT`.
+fn say_what<'a, E: Sink>(err: &mut E, what: &'a str) -> Result<(), SinkFailed>
+    ensures faults { SinkFaults result (E.sink err.old) (E.sink err.new) }
+    ensures contents { IfKnown (E.sink err.old) (E.sink err.new) (Sends (what_line what.now) result) }
+{
+    let program: &'a str = texts::PROGRAM;
+    let end: &'a str = texts::LINE_END;
+    send_all(err, &[program.as_bytes(), what.as_bytes(), end.as_bytes()])
+}
+
+/// Sends the line `treesync: WORD: WHAT`, of the word at the place.
+fn say_of_file<'a, E: Sink>(
+    err: &mut E,
+    words: &'a [String],
+    place: usize,
+    what: &'a str,
+) -> Result<(), SinkFailed>
+    ensures faults { SinkFaults result (E.sink err.old) (E.sink err.new) }
+    ensures contents { IfKnown (E.sink err.old) (E.sink err.new) (Sends (file_line (word_at (map string_bytes words.now) place) what.now) result) }
+{
+    let program: &'a str = texts::PROGRAM;
+    let word: &'a str = word_text(words, place);
+    let colon: &'a str = texts::COLON;
+    let end: &'a str = texts::LINE_END;
+    send_all(
+        err,
+        &[
+            program.as_bytes(),
+            word.as_bytes(),
+            colon.as_bytes(),
+            what.as_bytes(),
+            end.as_bytes(),
+        ],
+    )
+}
+
+/// Sends the line `treesync: WORD: line NUMBER: WHAT`, of the word at the place.
+fn say_of_line<E: Sink>(
+    err: &mut E,
+    words: &[String],
+    place: usize,
+    number: u128,
+    what: &str,
+) -> Result<(), SinkFailed>
+    ensures faults { SinkFaults result (E.sink err.old) (E.sink err.new) }
+    ensures contents { IfKnown (E.sink err.old) (E.sink err.new) (Sends (numbered_line (word_at (map string_bytes words.now) place) (decimal number) what.now) result) }
+{
+    let mut digits = Buffer::new();
+    send_all(
+        err,
+        &[
+            texts::PROGRAM.as_bytes(),
+            word_text(words, place).as_bytes(),
+            texts::LINE.as_bytes(),
+            digits.format(number).as_bytes(),
+            texts::COLON.as_bytes(),
+            what.as_bytes(),
+            texts::LINE_END.as_bytes(),
+        ],
+    )
+}
+
+/// Sends the line of a finding.
+fn say_finding<E: Sink>(
+    err: &mut E,
+    words: &[String],
+    finding: &Finding,
+) -> Result<(), SinkFailed>
+    ensures faults { SinkFaults result (E.sink err.old) (E.sink err.new) }
+    ensures contents { IfKnown (E.sink err.old) (E.sink err.new) (Sends (finding_message (map string_bytes words.now) finding.now) result) }
+{
+    match finding {
+        Finding::TooLarge { word } => say_of_file(err, words, *word, texts::TOO_LARGE),
+        Finding::Text { word, fault } => {
+            say_of_line(err, words, *word, fault.line as u128, kind_text(fault.kind))
+        }
+        Finding::NoTree { word, number } => {
+            say_of_line(err, words, *word, *number as u128 + 1, texts::NO_TREE)
+        }
+        Finding::NotTaken { word, number } => {
+            say_of_line(err, words, *word, *number as u128 + 1, texts::NOT_TAKEN)
+        }
+    }
+}
+
+/// Sends the line of a refusal.
+fn say<E: Sink>(err: &mut E, words: &[String], refusal: &Refusal) -> Result<(), SinkFailed>
+    ensures faults { SinkFaults result (E.sink err.old) (E.sink err.new) }
+    ensures contents { IfKnown (E.sink err.old) (E.sink err.new) (Sends (message_of (map string_bytes words.now) refusal.now) result) }
+{
+    match refusal {
+        Refusal::InvalidArguments => say_what(err, texts::WORDS_REFUSED),
+        Refusal::OutOfMemory => say_what(err, texts::OUT_OF_MEMORY),
+        Refusal::ReadFailed { word } => {
+            say_of_file(err, words, *word, texts::READ_FAILED)
+        }
+        Refusal::Found(finding) => say_finding(err, words, finding),
+    }
+}
+
+/// Prints a text and flushes it.
+fn print<O: Sink>(out: &mut O, text: &[u8]) -> Result<(), SinkFailed>
+    ensures faults { SinkFaults result (O.sink out.old) (O.sink out.new) }
+    ensures contents { IfKnown (O.sink out.old) (O.sink out.new) (PrintsAll text.now result) }
+{
+    send(out, text)?;
+    out.flush()
+}
+
+/// Prints an answer, or says on `err` why there is none, and gives the status. Refusals name the words.
+pub fn report<O: Sink, E: Sink>(
+    words: &[String],
+    answer: Result<Vec<u8>, Refusal>,
+    out: &mut O,
+    err: &mut E,
+) -> u8
+    ensures out { (O.sink out.old).faults ≤ (O.sink out.new).faults }
+    ensures err { (E.sink err.old).faults ≤ (E.sink err.new).faults }
+    ensures prints { Prints (seen (λ text. text.items) answer) result (O.sink out.old) (O.sink out.new) }
+    ensures says { Says (line_of (map string_bytes words.now) (seen (λ text. text.items) answer) result) (E.sink err.old) (E.sink err.new) }
+{
+    match answer {
+        Ok(text) => match print(out, &text) {
+            Ok(()) => 0,
+            Err(_) => {
+                let _ = say_what(err, texts::WRITE_FAILED);
+                4
+            }
+        },
+        Err(refusal) => {
+            let _ = say(err, words, &refusal);
+            status(&refusal)
+        }
+    }
+}
