@@ -165,9 +165,13 @@ all_read limit word name bytes buffer count before mid now none some within r f 
     opened = omega (arith, p.opened, q.opened);
     taken = omega (arith, p.taken, q.taken, within);
   });
-  allowed = (bytes, refl, whole_allowed limit word name bytes before.contents now.contents (FaultCounted before now) within
-      (both_then before.contents mid.contents now.contents r.read h (λ m k j p q.
-      let nothing : k.to_come ≡ [] = q.to_come ∙ ap (λ n. take n buffer ++ j.to_come) none ∙ q.end none some in
-      p.bytes ∙ ap (λ t. Some (bytes ++ t)) nothing ∙ ap Some (append-nil bytes))));
+  allowed = (
+    bytes,
+    refl,
+    whole_allowed limit word name bytes before.contents now.contents (FaultCounted before now) within
+        (both_then before.contents mid.contents now.contents r.read h (λ m k j p q.
+        let nothing : k.to_come ≡ [] = q.to_come ∙ ap (λ n. take n buffer ++ j.to_come) none ∙ q.end none some in
+        p.bytes ∙ ap (λ t. Some (bytes ++ t)) nothing ∙ ap Some (append-nil bytes))),
+  );
   job = tt;
 }

@@ -85,11 +85,10 @@ module _ (rows : List Row) (commands : Vec Command Global) (tree : Store) (done 
   pub after_printed : (word : ℕ) (read : ReadLog) (result : Result (Vec ℕ Global) Refusal) → commands.items ≡ read.commands → log_version ≡ read.version → Takes (at (store_of rows)) commands.items →
       IsJudged HasItems (λ a. a ≡ Ok (snapshot_text (later_version version log_version) (rows_of tree))) result → IsJudged HasItems (IsAfter word (version, rows) read) result
   after_printed word read result e v takes j =
-      same_text (IsAfter word (version, rows) read) (snapshot_text (later_version version log_version) (rows_of tree)) result
-      (
+      same_text (IsAfter word (version, rows) read) (snapshot_text (later_version version log_version) (rows_of tree)) result (
         subst (Takes (at (store_of rows))) e takes,
         ap (λ w. snapshot_text (later_version version w) (rows_of tree)) v
-        ∙ ap (λ t. snapshot_text (later_version version read.version) (rows_of t)) (done ∙ ap (stored (store_of rows)) e),
+            ∙ ap (λ t. snapshot_text (later_version version read.version) (rows_of t)) (done ∙ ap (stored (store_of rows)) e),
       ) j
 
 abbrev pub Snapshot : Type 0

@@ -49,8 +49,7 @@ added (Some k) old new cs c e f h = absurd (cc)
 newly_broken : (sum : Sum) (cs : List Change) (c : Change) (number : ℕ) → number ≡ sum.count + 1 → (IsTaken (cs ++ c ∷ []) → ⊥) → StandsFor sum cs → IsBrokenAt (cs ++ c ∷ []) number
 newly_broken sum cs c number e f h =
     let size : number ≡ length cs + 1 = e ∙ ap (λ n. n + 1) h.count in
-    let before : number - 1 ≡ length cs = omega (arith, size) in
-    (
+    let before : number - 1 ≡ length cs = omega (arith, size) in (
       omega (arith, size),
       omega (arith, size, length-append cs (c ∷ [])),
       subst IsTaken (sym (ap (λ n. take n (cs ++ c ∷ [])) before ∙ take-append_seam cs (c ∷ []))) h.taken,

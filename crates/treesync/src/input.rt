@@ -55,11 +55,7 @@ fn read_file<F: Files>(
 }
 
 /// The version and the rows of a snapshot's text.
-fn judge_snapshot(
-    alloc: Global,
-    word: usize,
-    bytes: &[u8],
-) -> Result<(Version, Vec<Row>), Refusal>
+fn judge_snapshot(alloc: Global, word: usize, bytes: &[u8]) -> Result<(Version, Vec<Row>), Refusal>
     ensures rows { IsJudged HasRows (λ a. a ≡ text_answer word (snapshot_of (parts 10 bytes.now))) result }
     ensures tree { IfOk result (λ r. IsRowTree r.1.items) }
     ensures printable { IfOk result (λ r. AllByRecursion (IsRowOfVersion r.0) r.1.items) }

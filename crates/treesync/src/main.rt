@@ -12,8 +12,8 @@ mod run;
 mod tests;
 
 pub use self::refusal::{Finding, Refusal};
-pub use self::run::run;
 use self::report::report;
+pub use self::run::run;
 use std::io::{ErrorKind, Write};
 use std::process::ExitCode;
 use std::{env, io};

@@ -147,11 +147,7 @@ fn say_of_line<E: Sink>(
 }
 
 /// Sends the line of a finding.
-fn say_finding<E: Sink>(
-    err: &mut E,
-    words: &[String],
-    finding: &Finding,
-) -> Result<(), SinkFailed>
+fn say_finding<E: Sink>(err: &mut E, words: &[String], finding: &Finding) -> Result<(), SinkFailed>
     ensures faults { SinkFaults result (E.sink err.old) (E.sink err.new) }
     ensures contents { IfKnown (E.sink err.old) (E.sink err.new) (Sends (finding_message (map string_bytes words.now) finding.now) result) }
 {
@@ -177,9 +173,7 @@ fn say<E: Sink>(err: &mut E, words: &[String], refusal: &Refusal) -> Result<(), 
     match refusal {
         Refusal::InvalidArguments => say_what(err, texts::WORDS_REFUSED),
         Refusal::OutOfMemory => say_what(err, texts::OUT_OF_MEMORY),
-        Refusal::ReadFailed { word } => {
-            say_of_file(err, words, *word, texts::READ_FAILED)
-        }
+        Refusal::ReadFailed { word } => { say_of_file(err, words, *word, texts::READ_FAILED) }
         Refusal::Found(finding) => say_finding(err, words, finding),
     }
 }

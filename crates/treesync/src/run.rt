@@ -30,7 +30,14 @@ fn job_answer<F: Files>(alloc: Global, job: &Job, files: &mut F) -> Result<Vec<u
         Job::Replay { snap, log } => {
             let snap_word = snap.place();
             let log_word = log.place();
-            replay(alloc, snap_word, snap.as_str(), log_word, log.as_str(), files)
+            replay(
+                alloc,
+                snap_word,
+                snap.as_str(),
+                log_word,
+                log.as_str(),
+                files,
+            )
         }
         Job::Canon { log } => canon(alloc, log.place(), log.as_str(), files),
     }

@@ -96,40 +96,226 @@ fn jobs_have_their_answers(rt: HostRuntime) -> Result<(), Fail> {
         ("frob", "", "", 2, refused),
         ("replay s", "", "", 2, refused),
         ("replay s l1 l1", NO_ROWS, TWO_MADE, 2, refused),
-        ("canon /dev/stdin", "", "", 3, "treesync: /dev/stdin: read failed\n"),
+        (
+            "canon /dev/stdin",
+            "",
+            "",
+            3,
+            "treesync: /dev/stdin: read failed\n",
+        ),
         ("replay s l1", "", TWO_MADE, 3, "treesync: s: read failed\n"),
         ("replay s l1", NO_ROWS, "", 3, "treesync: l1: read failed\n"),
-        ("replay s l1", NO_ROWS, TWO_MADE, 0, "treesnap 1\na d\na/x f:1\nend 2\n"),
-        ("replay s l1", NO_ROWS, "treelog 1\na/x - f:1\nend 1\n", 17, "treesync: l1: line 2: not taken\n"),
-        ("replay s l1", FILE_A, TORN, 17, "treesync: l1: line 3: not taken\n"),
+        (
+            "replay s l1",
+            NO_ROWS,
+            TWO_MADE,
+            0,
+            "treesnap 1\na d\na/x f:1\nend 2\n",
+        ),
+        (
+            "replay s l1",
+            NO_ROWS,
+            "treelog 1\na/x - f:1\nend 1\n",
+            17,
+            "treesync: l1: line 2: not taken\n",
+        ),
+        (
+            "replay s l1",
+            FILE_A,
+            TORN,
+            17,
+            "treesync: l1: line 3: not taken\n",
+        ),
         ("replay s l1", ordered, NO_COMMANDS, 0, ordered),
-        ("replay s l1", turned, NO_COMMANDS, 5, "treesync: s: line 4: order\n"),
-        ("replay s l1", "x", TWO_MADE, 5, "treesync: s: line 1: header\n"),
-        ("replay s l1", "treesnap 1\na -\nend 1\n", NO_COMMANDS, 5, "treesync: s: line 2: empty\n"),
-        ("replay s l1", "treesnap 1\na/x f:1\nend 1\n", NO_COMMANDS, 5, "treesync: s: line 2: parent\n"),
-        ("replay s l1", "treesnap 2\na d:x\nend 1\n", "treelog 1\na/b - d\nend 1\n", 0, "treesnap 2\na d:x\na/b d\nend 2\n"),
-        ("replay s l1", NO_ROWS, "treelog 2\na - d\nend 1\n", 0, "treesnap 2\na d\nend 1\n"),
-        ("canon l1", "", "treelog 1\na/x f:1 f:2\na/x f:2 f:3\nend 2\n", 0, "treelog 1\na/x f:1 f:3\nend 1\n"),
-        ("canon l1", "", "treelog 1\nt - f:1\nt f:1 -\nend 2\n", 0, NO_COMMANDS),
-        ("canon l1", "", "treelog 1\na/x f:1 -\na d -\na - f:2\nend 3\n", 0, "treelog 1\na/x f:1 -\na d f:2\nend 2\n"),
-        ("canon l1", "", "treelog 1\nend - d\nend 1\n", 0, "treelog 1\nend - d\nend 1\n"),
-        ("canon l1", "", "treelog 2\na d:x d:y\na d:y d\nend 2\n", 0, "treelog 2\na d:x d\nend 1\n"),
-        ("canon l1", "", "treelog 2\nend 0\n", 0, "treelog 2\nend 0\n"),
-        ("canon l1", "", TORN, 6, "treesync: l1: line 3: no tree takes this log\n"),
-        ("canon l1", "", depth, 6, "treesync: l1: line 6: no tree takes this log\n"),
-        ("canon l1", "", "treelog 1\na f:1 f:2\na f:3 f:4\nfrob\nend 3\n", 5, "treesync: l1: line 4: fields\n"),
-        ("canon l1", "", "treelog 1\na - d\n", 5, "treesync: l1: line 3: end\n"),
-        ("canon l1", "", "treelog 1\na - d\nb - d\nend 3\n", 5, "treesync: l1: line 4: count\n"),
-        ("canon l1", "", "treelog 1\na - d\nend 01\n", 5, "treesync: l1: line 3: count\n"),
-        ("canon l1", "", "treelog 1\nend 0\nend 0\n", 5, "treesync: l1: line 3: after\n"),
-        ("canon l1", "", "treelog 1\na%2fb - d\nend 1\n", 5, "treesync: l1: line 2: path\n"),
-        ("canon l1", "", "treelog 1\n\u{e9} - d\nend 1\n", 5, "treesync: l1: line 2: path\n"),
-        ("canon l1", "", "treelog 1\r\nend 0\r\n", 5, "treesync: l1: line 1: header\n"),
-        ("canon l1", "", "treelog 1\n\nend 0\n", 5, "treesync: l1: line 2: fields\n"),
-        ("canon l1", "", "treelog 1\na x d\nend 1\n", 5, "treesync: l1: line 2: value\n"),
-        ("canon l1", "", "treelog 1\na d d\nend 1\n", 5, "treesync: l1: line 2: same\n"),
-        ("canon l1", "", "treelog 1\na - d:x\nend 1\n", 5, "treesync: l1: line 2: value\n"),
-        ("canon l1", "", "treelog 2\na - d:\nend 1\n", 5, "treesync: l1: line 2: value\n"),
+        (
+            "replay s l1",
+            turned,
+            NO_COMMANDS,
+            5,
+            "treesync: s: line 4: order\n",
+        ),
+        (
+            "replay s l1",
+            "x",
+            TWO_MADE,
+            5,
+            "treesync: s: line 1: header\n",
+        ),
+        (
+            "replay s l1",
+            "treesnap 1\na -\nend 1\n",
+            NO_COMMANDS,
+            5,
+            "treesync: s: line 2: empty\n",
+        ),
+        (
+            "replay s l1",
+            "treesnap 1\na/x f:1\nend 1\n",
+            NO_COMMANDS,
+            5,
+            "treesync: s: line 2: parent\n",
+        ),
+        (
+            "replay s l1",
+            "treesnap 2\na d:x\nend 1\n",
+            "treelog 1\na/b - d\nend 1\n",
+            0,
+            "treesnap 2\na d:x\na/b d\nend 2\n",
+        ),
+        (
+            "replay s l1",
+            NO_ROWS,
+            "treelog 2\na - d\nend 1\n",
+            0,
+            "treesnap 2\na d\nend 1\n",
+        ),
+        (
+            "canon l1",
+            "",
+            "treelog 1\na/x f:1 f:2\na/x f:2 f:3\nend 2\n",
+            0,
+            "treelog 1\na/x f:1 f:3\nend 1\n",
+        ),
+        (
+            "canon l1",
+            "",
+            "treelog 1\nt - f:1\nt f:1 -\nend 2\n",
+            0,
+            NO_COMMANDS,
+        ),
+        (
+            "canon l1",
+            "",
+            "treelog 1\na/x f:1 -\na d -\na - f:2\nend 3\n",
+            0,
+            "treelog 1\na/x f:1 -\na d f:2\nend 2\n",
+        ),
+        (
+            "canon l1",
+            "",
+            "treelog 1\nend - d\nend 1\n",
+            0,
+            "treelog 1\nend - d\nend 1\n",
+        ),
+        (
+            "canon l1",
+            "",
+            "treelog 2\na d:x d:y\na d:y d\nend 2\n",
+            0,
+            "treelog 2\na d:x d\nend 1\n",
+        ),
+        (
+            "canon l1",
+            "",
+            "treelog 2\nend 0\n",
+            0,
+            "treelog 2\nend 0\n",
+        ),
+        (
+            "canon l1",
+            "",
+            TORN,
+            6,
+            "treesync: l1: line 3: no tree takes this log\n",
+        ),
+        (
+            "canon l1",
+            "",
+            depth,
+            6,
+            "treesync: l1: line 6: no tree takes this log\n",
+        ),
+        (
+            "canon l1",
+            "",
+            "treelog 1\na f:1 f:2\na f:3 f:4\nfrob\nend 3\n",
+            5,
+            "treesync: l1: line 4: fields\n",
+        ),
+        (
+            "canon l1",
+            "",
+            "treelog 1\na - d\n",
+            5,
+            "treesync: l1: line 3: end\n",
+        ),
+        (
+            "canon l1",
+            "",
+            "treelog 1\na - d\nb - d\nend 3\n",
+            5,
+            "treesync: l1: line 4: count\n",
+        ),
+        (
+            "canon l1",
+            "",
+            "treelog 1\na - d\nend 01\n",
+            5,
+            "treesync: l1: line 3: count\n",
+        ),
+        (
+            "canon l1",
+            "",
+            "treelog 1\nend 0\nend 0\n",
+            5,
+            "treesync: l1: line 3: after\n",
+        ),
+        (
+            "canon l1",
+            "",
+            "treelog 1\na%2fb - d\nend 1\n",
+            5,
+            "treesync: l1: line 2: path\n",
+        ),
+        (
+            "canon l1",
+            "",
+            "treelog 1\n\u{e9} - d\nend 1\n",
+            5,
+            "treesync: l1: line 2: path\n",
+        ),
+        (
+            "canon l1",
+            "",
+            "treelog 1\r\nend 0\r\n",
+            5,
+            "treesync: l1: line 1: header\n",
+        ),
+        (
+            "canon l1",
+            "",
+            "treelog 1\n\nend 0\n",
+            5,
+            "treesync: l1: line 2: fields\n",
+        ),
+        (
+            "canon l1",
+            "",
+            "treelog 1\na x d\nend 1\n",
+            5,
+            "treesync: l1: line 2: value\n",
+        ),
+        (
+            "canon l1",
+            "",
+            "treelog 1\na d d\nend 1\n",
+            5,
+            "treesync: l1: line 2: same\n",
+        ),
+        (
+            "canon l1",
+            "",
+            "treelog 1\na - d:x\nend 1\n",
+            5,
+            "treesync: l1: line 2: value\n",
+        ),
+        (
+            "canon l1",
+            "",
+            "treelog 2\na - d:\nend 1\n",
+            5,
+            "treesync: l1: line 2: value\n",
+        ),
     ] {
         let mut files = files_of(alloc, s, l1, &[])?;
         let got = ran(alloc, words, &mut files, 1000, 1000)?;
@@ -162,7 +348,14 @@ fn short_sinks_take_the_first_bytes(rt: HostRuntime) -> Result<(), Fail> {
 #[test]
 fn a_failing_call_names_its_file(rt: HostRuntime) -> Result<(), Fail> {
     let alloc = rt.alloc();
-    for (number, name) in [(1, "s"), (2, "s"), (3, "s"), (4, "l1"), (5, "l1"), (6, "l1")] {
+    for (number, name) in [
+        (1, "s"),
+        (2, "s"),
+        (3, "s"),
+        (4, "l1"),
+        (5, "l1"),
+        (6, "l1"),
+    ] {
         let mut files = files_of(alloc, NO_ROWS, TWO_MADE, &[number])?;
         let got = ran(alloc, "replay s l1", &mut files, 1000, 1000)?;
         let line = format!(in alloc; "treesync: {name}: read failed\n")?;
@@ -173,11 +366,15 @@ fn a_failing_call_names_its_file(rt: HostRuntime) -> Result<(), Fail> {
     let got = ran(alloc, "canon l1", &mut files, 1000, 1000)?;
     compare(&rt, &got, 3, b"treesync: l1: read failed\n");
     let mut files = files_of(alloc, NO_ROWS, TWO_MADE, &[7])?;
-    assert_eq!(rt; ran(alloc, "replay s l1", &mut files, 1000, 1000)?.status, 0);
+    assert_eq!(rt;
+        ran(alloc, "replay s l1", &mut files, 1000, 1000)?.status,
+        0
+    );
     Ok(())
 }
 
 /// Files that give line feeds without end.
+#[derive(Drop)]
 struct EndlessFiles;
 
 impl Files for EndlessFiles {
@@ -207,7 +404,11 @@ fn limits_hold_at_their_numbers(rt: HostRuntime) -> Result<(), Fail> {
             text.extend_from_slice(b"/a")?;
         }
         text.extend_from_slice(b" - d\nend 1\n")?;
-        let written: &[u8] = if status == 0 { &text } else { b"treesync: l1: line 2: path\n" };
+        let written: &[u8] = if status == 0 {
+            &text
+        } else {
+            b"treesync: l1: line 2: path\n"
+        };
         let mut files = files_of(alloc, "", "", &[])?;
         files.add("l1", &text)?;
         let got = ran(alloc, "canon l1", &mut files, 1000, 1000)?;
@@ -233,7 +434,11 @@ fn a_file_of_the_largest_size_is_printed_back(rt: HostRuntime) -> Result<(), Fai
         let bytes = vec![in alloc; b'1'; size]?;
         text.extend_from_slice(&bytes)?;
         text.extend_from_slice(b"\nend 1\n")?;
-        let written: &[u8] = if status == 0 { &text } else { b"treesync: l1: line 2: value\n" };
+        let written: &[u8] = if status == 0 {
+            &text
+        } else {
+            b"treesync: l1: line 2: value\n"
+        };
         let mut files = files_of(alloc, "", "", &[])?;
         files.add("l1", &text)?;
         let got = ran(alloc, "canon l1", &mut files, 16_800_000, 1000)?;
@@ -247,7 +452,12 @@ fn a_log_has_at_most_its_number_of_commands(rt: HostRuntime) -> Result<(), Fail>
     let alloc = rt.alloc();
     for (more, end, status, written) in [
         ("", "end 1048576\n", 0, NO_COMMANDS),
-        ("t - d\n", "end 1048577\n", 5, "treesync: l1: line 1048578: too-many\n"),
+        (
+            "t - d\n",
+            "end 1048577\n",
+            5,
+            "treesync: l1: line 1048578: too-many\n",
+        ),
     ] {
         let mut text = Vec::from_slice(alloc, b"treelog 1\n")?;
         for _ in 0..524_288 {

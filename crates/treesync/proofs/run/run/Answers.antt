@@ -1,7 +1,7 @@
 use Rattle.std.proofs.Common.{map, string_bytes}
 use Rattle.tool_words.specs.Jobs.{job_of}
 use Rattle.treesync.proofs.Unique.{answer_one}
-use Rattle.treesync.proofs.Words.{found_allowed, found_later, found_reads, seen_text}
+use Rattle.treesync.proofs.Words.{found_allowed, found_later, found_reads, none_failed, seen_text}
 use Rattle.treesync.proofs.run.run.Goals as goal
 
 pub returns-clause-one : goal.returns-clause-one
@@ -22,3 +22,8 @@ returns-clause-keeps g c = record {
   err = c.report.ensures.err;
   reads = found_reads (job_of (map string_bytes c.args.words.now)) (g.F.Files.files c.args.files.now) (g.F.Files.files c.words_answer-answer.new.files) c.words_answer-answer.result c.words_answer-answer.ensures;
 }
+
+pub returns-clause-done : goal.returns-clause-done
+returns-clause-done g c = λ e.
+    none_failed (job_of (map string_bytes c.args.words.now)) (g.F.Files.files c.args.files.now) (g.F.Files.files c.words_answer-answer.new.files) c.words_answer-answer.result c.report.result
+    (g.O.Sink.sink c.args.out.now) (g.O.Sink.sink c.report.new.out) c.words_answer-answer.ensures c.report.ensures.prints e
