@@ -1,17 +1,16 @@
 -- Two logs disagree where no value suits what both want, and logs of which no two disagree have a common tree.
-use Rattle.std.proofs.Common.{◌≡◌, ◌<◌, ◌≤◌, ◌+◌, ℕ, zero, suc, Bool, true, false, not, ◌&&◌, ◌||◌, List, [], ◌∷◌, length, Option, Some, None, refl, sym, ap, subst, ◌∙◌, arith, ◌⊎◌, inl, inr}
-use Rattle.std.specs.Prelude.{is_some, slice_index_or}
+use Rattle.std.proofs.Common.{◌≡◌, ◌<◌, ◌≤◌, ℕ, zero, suc, Bool, true, false, not, ◌&&◌, ◌||◌, List, [], ◌∷◌, length, Option, Some, None, refl, sym, ap, subst, ◌∙◌, arith, ◌⊎◌, inl, inr}
+use Rattle.std.specs.Prelude.{is_some}
 use Rattle.std.proofs.lemmas.Bool.{cases_lt}
 use Rattle.sync_path.specs.Paths.{Node, parent}
-use Rattle.sync_command.specs.declared.values.Value.{Value}
 use Rattle.sync_command.specs.declared.values.Value.TheVariants.{Empty, Dir, File}
-use Rattle.sync_command.specs.Values.{is_dir, is_empty, same_value}
+use Rattle.sync_command.specs.Values.{is_empty, same_value}
 use Rattle.sync_command.specs.Changes.{Change}
 use Rattle.sync_command.specs.Trees.{command_at}
 use Rattle.sync_command.specs.Maps.{at}
 use Rattle.canon_set.specs.Logs.{IsTaken, all_change, names, touches}
 use Rattle.canon_set.specs.Leaving.{above, leaves}
-use Rattle.canon_set.specs.Sums.{Sum, StandsFor}
+use Rattle.canon_set.specs.Sums.{Sum}
 use Rattle.refluent.specs.Needs.{Need, Anything, AnyDirectory, Exactly, need_by, need, needs_non_empty, are_incompatible, leaves_parent, needs_absent, are_opposed, disagree}
 use Rattle.refluent.specs.CommonTrees.{IsAmong, AllChange, AreTaken, Agree, HasCommonTree}
 use Rattle.refluent.specs.FirstDisagreements.{log_at}

@@ -1,5 +1,5 @@
 -- The joint of logs that agree.
-use Rattle.std.proofs.Common.{◌≡◌, ◌<◌, ◌≤◌, ℕ, suc, List, [], ◌∷◌, length, map, refl, sym, ap, subst, ◌∙◌, arith}
+use Rattle.std.proofs.Common.{◌≡◌, ◌<◌, ◌≤◌, ℕ, suc, List, [], ◌∷◌, length, refl, sym, ap, subst, ◌∙◌, arith}
 use Rattle.std.specs.Prelude.{Result, Err, Some}
 use Rattle.std.specs.Result.{IsErrAnd}
 use Rattle.std.specs.List.{slice_get}
@@ -7,7 +7,7 @@ use Rattle.refluent.specs.declared.faults.JoinFault.{JoinFault}
 use Rattle.sync_command.specs.declared.commands.Row.{Row}
 use Rattle.sync_command.specs.Changes.{Change}
 use Rattle.canon_set.specs.Sums.{Sum}
-use Rattle.refluent.specs.Joints.{AreSums, EachStandsFor, IsJoint, StandsForAll, net_sets}
+use Rattle.refluent.specs.Joints.{AreSums, EachStandsFor, StandsForAll, net_sets}
 use Rattle.refluent.specs.CommonTrees.{HasCommonTree}
 use Rattle.refluent.specs.Comparisons.{IsAgreed}
 use Rattle.refluent.specs.JointParts.{AreRowsOf, HasNets, sets_by}

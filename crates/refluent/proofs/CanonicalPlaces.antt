@@ -1,12 +1,12 @@
 -- Where a command is in the canonical list of commands that are given in path order.
-use Rattle.std.proofs.Common.{◌≡◌, ◌<◌, ◌≤◌, ◌+◌, ℕ, zero, suc, Bool, true, false, not, ◌&&◌, ◌||◌, List, [], ◌∷◌, ◌++◌, length, Option, Some, None, refl, sym, ap, subst, ◌∙◌, arith}
+use Rattle.std.proofs.Common.{◌≡◌, ◌+◌, suc, Bool, true, false, not, ◌&&◌, List, [], ◌∷◌, ◌++◌, length, refl, sym, ap, ◌∙◌, arith}
 use Rattle.std.specs.Prelude.{cond, if◌then◌else◌}
 use Rattle.std.specs.List.{filter, list_all}
 use Rattle.std.specs.List.Sorted.{IsPermutation}
 use Rattle.std.proofs.lemmas.List.Sorted.{IsPermutation-refl, IsPermutation-middle, IsPermutation-sym, IsPermutation-trans}
 use Rattle.sync_path.specs.Paths.{Node, same_path, comes_before}
 use Rattle.sync_command.specs.Changes.{Change, is_down, goes_before, is_canonical}
-use Rattle.sync_command.specs.Trees.{command_at, one_each}
+use Rattle.sync_command.specs.Trees.{one_each}
 use Rattle.canon_set.specs.Sets.{canonical}
 use Rattle.refluent.specs.Picks.{place_in}
 use Rattle.refluent.proofs.Listing.{parted}

@@ -1,13 +1,11 @@
 -- The changes of sorted claims, part by part.
-use Rattle.std.proofs.Common.{◌≡◌, ◌<◌, ◌≤◌, ◌+◌, ◌-◌, ◌==◌, ℕ, zero, suc, Bool, true, false, not, ◌&&◌, ◌||◌, List, [], ◌∷◌, ◌++◌, take, drop, length, Option, Some, None, refl, sym, ap, subst, ◌∙◌, arith, append_assoc}
+use Rattle.std.proofs.Common.{◌≡◌, ◌<◌, ◌≤◌, ◌+◌, ◌-◌, ◌==◌, ℕ, zero, suc, Bool, true, false, not, ◌&&◌, ◌||◌, List, [], ◌∷◌, ◌++◌, take, drop, length, Option, Some, None, refl, sym, ap, ◌∙◌, arith}
 use Rattle.std.specs.Prelude.{cond, if◌then◌else◌}
 use Rattle.std.specs.List.{filter, list_all, list_any, slice_get, slice_range}
 use Rattle.sync_path.specs.Paths.{Node, same_path, comes_before}
 use Rattle.sync_command.specs.Values.{same_value}
 use Rattle.sync_command.specs.declared.values.Value.{Value}
-use Rattle.sync_command.specs.Changes.{Change, same_change, is_change, is_down}
-use Rattle.sync_command.specs.Trees.{one_each}
-use Rattle.canon_set.specs.Sets.{canonical}
+use Rattle.sync_command.specs.Changes.{Change, same_change, is_change}
 use Rattle.refluent.specs.Sets.{is_in, without_repeats, differs_from}
 use Rattle.refluent.specs.Tables.{AreSorted, IsGroup, node_of}
 use Rattle.refluent.specs.UniqueClaims.{AreUnique}
@@ -21,7 +19,7 @@ use Rattle.refluent.proofs.Wanting.{range_at}
 use Rattle.refluent.proofs.Nets.{change_node, change_touching, is_log}
 use Rattle.refluent.proofs.CanonicalPlaces.{rises}
 use Rattle.sync_command.proofs.CallerLemmas.{same_value_is}
-use Rattle.sync_path.proofs.CallerLemmas.{same_path_is, same_path_at, same_path_refl, before_total}
+use Rattle.sync_path.proofs.CallerLemmas.{same_path_is, same_path_at, before_total}
 
 -- ---- a list around one of its places
 

@@ -1,15 +1,15 @@
 -- How the table grows by one node, and where its parent is found.
-use Rattle.std.proofs.Common.{◌≡◌, ◌≢◌, ◌↔◌, ◌<◌, ◌≤◌, ◌+◌, ◌-◌, ℕ, zero, suc, Bool, true, false, List, [], ◌∷◌, ◌++◌, length, get_or, Option, Some, None, refl, sym, ap, subst, ◌∙◌, arith, rules, ◌⊎◌, inl, inr}
+use Rattle.std.proofs.Common.{◌≡◌, ◌≢◌, ◌↔◌, ◌<◌, ◌≤◌, ◌+◌, ◌-◌, ℕ, zero, suc, Bool, true, false, List, [], ◌∷◌, ◌++◌, length, get_or, Option, Some, None, refl, sym, ap, subst, ◌∙◌, arith, ◌⊎◌, inl, inr}
 use Rattle.std.specs.Prelude.{IsTrue}
 use Rattle.std.specs.List.{slice_get}
-use Rattle.std.proofs.lemmas.Option.{slice_get-get_or, get_or_from_slice_get, slice_get_within, slice_get_read}
+use Rattle.std.proofs.lemmas.Option.{slice_get-get_or, slice_get_within}
 use Rattle.std.proofs.Common.{length-append}
 use Rattle.std.proofs.lemmas.Bool.{cases_lt}
 use Rattle.sync_path.specs.Paths.{Node, parent, comes_before, same_path, IsUnder, is_under}
 use Rattle.refluent.specs.Tables.{IsTable, IsTableTo, IsFresh, IsGroup, IsParentGroup, HasGroup, AreSorted, AreClosed, node_of, node_in}
 use Rattle.refluent.specs.declared.claims.Claim.{Claim}
 use Rattle.refluent.specs.declared.table.Group.{Group}
-use Rattle.sync_path.proofs.CallerLemmas.{contiguous, under_is, parent_is, parent_none, before_trans, before_irrefl, before_asym, parent_before, same_path_is, same_path_at, before_total, HasParentUnder, under_split, under_shorter, under_parent, IsUnder-parent}
+use Rattle.sync_path.proofs.CallerLemmas.{contiguous, under_is, parent_is, parent_none, before_trans, before_irrefl, parent_before, same_path_is, same_path_at, before_total, HasParentUnder, under_split, under_shorter, IsUnder-parent}
 
 -- a node of the table that is the other one, or under it
 pub record IsOnWay (claims : List Claim) (groups : List Group) (q : Node) (i : ℕ) : Type 0 where

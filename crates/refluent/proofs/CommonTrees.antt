@@ -7,10 +7,10 @@ use Rattle.sync_path.specs.Paths.{Node}
 use Rattle.sync_command.specs.Changes.{Change}
 use Rattle.sync_command.specs.Trees.{Takes, command_at, Fits}
 use Rattle.sync_command.specs.Maps.{Store, at}
-use Rattle.canon_set.specs.Logs.{IsTaken, names, touches}
+use Rattle.canon_set.specs.Logs.{names, touches}
 use Rattle.canon_set.specs.Leaving.{above}
 use Rattle.refluent.specs.Sets.{IsSubset}
-use Rattle.refluent.specs.Needs.{Anything, AnyDirectory, need, need_by, meets, disagree}
+use Rattle.refluent.specs.Needs.{Anything, AnyDirectory, need, need_by, meets}
 use Rattle.refluent.specs.CommonTrees.{IsAmong, AllChange, AreTaken, Agree, IsCommonTree, HasCommonTree, both_needs, joint_need, least_value, least_common_tree}
 use Rattle.refluent.specs.Drawn.{drawn_commands}
 use Rattle.refluent.proofs.Drawing.{IsCommon, drawn_fits_each}

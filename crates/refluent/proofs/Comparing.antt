@@ -1,5 +1,5 @@
 -- What is known of logs by their sums.
-use Rattle.std.proofs.Common.{◌≡◌, ◌<◌, ◌≤◌, ◌+◌, ◌-◌, ℕ, List, length, Option, Some, None, refl, sym, ap, subst, ◌∙◌, arith}
+use Rattle.std.proofs.Common.{◌≡◌, ◌<◌, ◌+◌, ◌-◌, ℕ, List, length, Some, sym, subst, arith}
 use Rattle.std.specs.Prelude.{Result, Err}
 use Rattle.std.specs.List.{slice_get}
 use Rattle.refluent.specs.declared.faults.JoinFault.{JoinFault}

@@ -1,18 +1,17 @@
 -- The least pair of logs over the nodes of a table.
-use Rattle.std.proofs.Common.{◌≡◌, ◌<◌, ◌≤◌, ◌+◌, ◌-◌, ℕ, zero, suc, Bool, true, false, not, ◌&&◌, ◌||◌, ◌==◌, nat_lt, List, [], ◌∷◌, ◌++◌, take, drop, length, get_or, Option, Some, None, refl, sym, ap, subst, ◌∙◌, arith, rules, ◌⊎◌, inl, inr}
+use Rattle.std.proofs.Common.{◌≡◌, ◌<◌, ◌≤◌, ◌+◌, ℕ, Bool, true, false, List, [], ◌∷◌, ◌++◌, take, drop, length, get_or, Option, Some, None, refl, sym, ap, subst, ◌∙◌, arith, ◌⊎◌, inl, inr}
 use Rattle.std.specs.Prelude.{if◌then◌else◌}
 use Rattle.std.specs.List.{slice_get}
-use Rattle.std.proofs.lemmas.Option.{slice_get-get_or, get_or_from_slice_get, slice_get_within}
+use Rattle.std.proofs.lemmas.Option.{slice_get-get_or, slice_get_within}
 use Rattle.std.proofs.lemmas.Bool.{cases_lt}
 use Rattle.std.proofs.lemmas.Bool.Decides.{nat_tests}
-use borrow.Author.Count.{below_more}
 use Rattle.sync_path.specs.Paths.{Node}
 use Rattle.sync_command.specs.Changes.{Change}
 use Rattle.refluent.specs.Needs.{are_incompatible}
 use Rattle.refluent.specs.FirstDisagreements.{log_at, pair_before}
-use Rattle.refluent.specs.Demands.{demanded, are_incompatible_demands, NoPair, NoneIncompatible, IsPairAt, IsIncompatibleAt, IsLeastPair}
+use Rattle.refluent.specs.Demands.{demanded, are_incompatible_demands, NoPair, IsPairAt, IsLeastPair}
 use Rattle.refluent.specs.Tables.{wanted, node_of, AreFor, AreClaims}
-use Rattle.refluent.specs.Disagreements.{are_incompatible_at, NoDisagreement, IsLeastDisagreement, IsDisagreementSoFar, better_of, IsWithin, IsInRange}
+use Rattle.refluent.specs.Disagreements.{are_incompatible_at, IsLeastDisagreement, IsDisagreementSoFar, better_of, IsWithin, IsInRange}
 use Rattle.refluent.specs.declared.claims.Claim.{Claim}
 use Rattle.refluent.specs.declared.demands.Demand.{Demand}
 use Rattle.refluent.specs.declared.demands.Demand.TheVariants as demand

@@ -1,10 +1,9 @@
 -- How many drawn commands there are, counted over the claims.
-use Rattle.std.proofs.Common.{◌≡◌, ◌<◌, ◌≤◌, ◌+◌, ◌-◌, ◌==◌, ℕ, zero, suc, Bool, true, false, not, ◌&&◌, ◌||◌, List, [], ◌∷◌, ◌++◌, length, Option, Some, None, refl, sym, ap, subst, ◌∙◌, arith, ◌⊎◌, inl, inr}
+use Rattle.std.proofs.Common.{◌≡◌, ◌<◌, ◌≤◌, ◌+◌, ◌-◌, ℕ, zero, suc, Bool, true, false, not, ◌&&◌, ◌||◌, List, [], ◌∷◌, length, Option, Some, None, refl, sym, ap, ◌∙◌, arith, ◌⊎◌, inl, inr}
 use Rattle.std.specs.Prelude.{cond}
 use Rattle.std.specs.List.{filter, slice_get}
-use Rattle.sync_path.specs.Paths.{Node}
 use Rattle.sync_command.specs.Changes.{Change, same_change}
-use Rattle.sync_command.specs.Trees.{command_at, one_each}
+use Rattle.sync_command.specs.Trees.{command_at}
 use Rattle.canon_set.specs.Sets.{canonical}
 use Rattle.refluent.specs.Sets.{is_in, IsSubset, all_differ, differs_from, without_repeats}
 use Rattle.refluent.specs.Drawn.{in_turn, drawn_of}
@@ -13,7 +12,7 @@ use Rattle.refluent.specs.JointParts.{change_in, changes_of, sets_by, sets_from,
 use Rattle.refluent.specs.Numberings.{all_changes}
 use Rattle.refluent.specs.declared.claims.Claim.{Claim}
 use Rattle.refluent.proofs.Sets.{all_differ-without_repeats, at_from_in, in_from_at, is_in-append, is_in-filter, is_in-without_repeats, same_change_at, same_change_is, same_change_refl}
-use Rattle.refluent.proofs.Nets.{IsClaimed, change_node, claimed, found, once_each}
+use Rattle.refluent.proofs.Nets.{change_node, claimed, found, once_each}
 use Rattle.canon_set.proofs.CallerLemmas.{command_at-canonical, one_each-canonical}
 use Rattle.sync_path.proofs.CallerLemmas.{both}
 

@@ -1,11 +1,11 @@
 -- How children are linked, the last node first.
-use Rattle.std.proofs.Common.{◌≡◌, ◌<◌, ◌≤◌, ◌+◌, ◌-◌, ℕ, zero, suc, Bool, true, false, List, [], ◌∷◌, get_or, length, Option, Some, None, refl, sym, ap, subst, ◌∙◌, arith, ◌⊎◌, inl, inr}
+use Rattle.std.proofs.Common.{◌≡◌, ◌<◌, ◌≤◌, ◌+◌, ℕ, zero, suc, List, get_or, length, Option, Some, None, refl, sym, ap, subst, ◌∙◌, arith, ◌⊎◌, inl, inr}
 use Rattle.std.specs.Prelude.{slice_set, slice_index_or}
 use Rattle.std.specs.List.{slice_get}
 use Rattle.std.proofs.lemmas.Option.{slice_get-get_or, slice_get_within}
 use Rattle.std.proofs.lemmas.Bool.{cases_lt}
 use Rattle.std.proofs.Math.ListN.{length-set}
-use Rattle.refluent.specs.Families.{AreFamilies, IsFirstPlace, NonePasses, place_or, up_at, up_of}
+use Rattle.refluent.specs.Families.{AreFamilies, IsFirstPlace, place_or, up_at, up_of}
 use Rattle.refluent.specs.declared.joint.Link.{Link}
 use Rattle.refluent.proofs.Wanting.{set_at}
 

@@ -1,8 +1,7 @@
 -- The net commands of the claims of a node are those of the net sets there.
-use Rattle.std.proofs.Common.{◌≡◌, ◌<◌, ◌≤◌, ◌+◌, ◌-◌, ◌==◌, ℕ, zero, suc, Bool, true, false, List, [], ◌∷◌, ◌++◌, take, drop, length, Option, Some, None, refl, sym, ap, subst, ◌∙◌, arith, ◌⊎◌, inl, inr}
+use Rattle.std.proofs.Common.{◌≡◌, ◌<◌, ◌≤◌, ◌+◌, ◌-◌, ℕ, zero, suc, List, [], ◌∷◌, Option, Some, None, refl, sym, ap, ◌∙◌, arith, ◌⊎◌, inl, inr}
 use Rattle.std.specs.Prelude.{if◌then◌else◌, is_some}
 use Rattle.std.specs.List.{slice_get, slice_range}
-use Rattle.std.proofs.lemmas.Option.{slice_get_within}
 use Rattle.std.proofs.lemmas.Bool.{cases_lt}
 use Rattle.sync_path.specs.Paths.{Node}
 use Rattle.sync_command.specs.Changes.{Change}
@@ -13,7 +12,6 @@ use Rattle.refluent.specs.Tables.{AreOrdered, IsGroup, node_of}
 use Rattle.refluent.specs.UniqueClaims.{AreUnique}
 use Rattle.refluent.specs.JointParts.{change_in, changes_of, sets_by, sets_from}
 use Rattle.refluent.specs.Numberings.{pick_of, picks_of, with_pick}
-use Rattle.refluent.specs.declared.joint.Pick.{Pick}
 use Rattle.refluent.specs.declared.claims.Claim.{Claim}
 use Rattle.refluent.specs.declared.table.Group.{Group}
 use Rattle.refluent.proofs.Nets.{change_node, change_touching, claimed, found, once_each}

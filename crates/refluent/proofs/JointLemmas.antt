@@ -1,12 +1,12 @@
 -- What a joint says of the logs that it stands for.
-use Rattle.std.proofs.Common.{◌≡◌, ◌<◌, ℕ, zero, suc, Bool, true, false, ◌&&◌, ◌||◌, List, [], ◌∷◌, ◌++◌, length, map, Option, Some, None, refl, sym, ap, subst, ◌∙◌, arith, ◌⊎◌, inl, inr}
-use Rattle.std.specs.Prelude.{if◌then◌else◌, is_some}
+use Rattle.std.proofs.Common.{◌≡◌, ◌<◌, ℕ, zero, suc, Bool, true, false, ◌||◌, List, [], ◌∷◌, ◌++◌, length, Some, refl, sym, ap, subst, ◌∙◌, arith, ◌⊎◌, inl, inr}
+use Rattle.std.specs.Prelude.{if◌then◌else◌}
 use Rattle.std.specs.List.{slice_get}
 use Rattle.sync_path.specs.Paths.{Node, same_path, comes_before}
 use Rattle.sync_command.specs.declared.values.Value.{Value}
 use Rattle.sync_command.specs.declared.commands.Row.{Row}
 use Rattle.sync_command.specs.Changes.{Change}
-use Rattle.sync_command.specs.Trees.{Fits, command_at}
+use Rattle.sync_command.specs.Trees.{Fits}
 use Rattle.sync_command.specs.Maps.{Store, at}
 use Rattle.canon_set.specs.Logs.{names, net}
 use Rattle.canon_set.specs.Leaving.{above}

@@ -1,12 +1,12 @@
 -- The least disagreement over the table's nodes is the first disagreement of the logs.
-use Rattle.std.proofs.Common.{◌≡◌, ◌<◌, ◌≤◌, ◌+◌, ℕ, zero, suc, Bool, true, false, not, ◌&&◌, ◌||◌, List, [], ◌∷◌, length, get_or, Option, Some, None, refl, sym, ap, subst, ◌∙◌, arith, ◌⊎◌, inl, inr}
+use Rattle.std.proofs.Common.{◌≡◌, ◌<◌, ◌≤◌, ℕ, Bool, true, false, List, length, get_or, Option, Some, None, refl, sym, ap, subst, ◌∙◌, arith, ◌⊎◌, inl, inr}
 use Rattle.std.specs.List.{slice_get}
 use Rattle.std.proofs.lemmas.Option.{slice_get_within, slice_get-get_or, get_or_from_slice_get}
 use Rattle.std.proofs.lemmas.Bool.{cases_lt}
 use Rattle.sync_path.specs.Paths.{Node, comes_before}
 use Rattle.sync_command.specs.Changes.{Change}
 use Rattle.canon_set.specs.Sums.{Sum}
-use Rattle.refluent.specs.Needs.{Need, Anything, Exactly, are_incompatible, disagree, needs_absent}
+use Rattle.refluent.specs.Needs.{Anything, are_incompatible, disagree, needs_absent}
 use Rattle.refluent.specs.Joints.{EachStandsFor}
 use Rattle.refluent.specs.CommonTrees.{HasCommonTree}
 use Rattle.refluent.specs.FirstDisagreements.{IsDisagreement, IsFirstDisagreement, log_at, pair_before}
@@ -18,7 +18,7 @@ use Rattle.refluent.specs.declared.claims.Claim.{Claim}
 use Rattle.refluent.specs.declared.table.Group.{Group}
 use Rattle.refluent.specs.declared.table.Disagreement.{Disagreement}
 use Rattle.refluent.proofs.Wanting.{need_none}
-use Rattle.refluent.proofs.Agreeing.{log_is, disagree_wanted, disagree_none, log_none, no_common, IsLog}
+use Rattle.refluent.proofs.Agreeing.{log_is, disagree_wanted, disagree_none, log_none, no_common}
 use Rattle.sync_path.proofs.CallerLemmas.{before_irrefl, before_asym}
 
 -- needs of logs that say nothing of a node are met by nothing there

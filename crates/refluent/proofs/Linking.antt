@@ -1,18 +1,16 @@
 -- The links and the picks of a joint, made of the groups of its claims.
-use Rattle.std.proofs.Common.{◌≡◌, ◌<◌, ◌≤◌, ◌+◌, ◌-◌, ℕ, zero, suc, Bool, true, false, List, [], ◌∷◌, ◌++◌, take, drop, length, Option, Some, None, refl, sym, ap, subst, ◌∙◌, arith, length-append, append_assoc, ◌⊎◌, inl, inr}
+use Rattle.std.proofs.Common.{◌≡◌, ◌<◌, ◌≤◌, ◌+◌, ◌-◌, ℕ, zero, suc, List, [], ◌∷◌, ◌++◌, take, drop, length, Option, Some, None, refl, sym, ap, subst, ◌∙◌, arith, length-append, append_assoc, ◌⊎◌, inl, inr}
 use Rattle.std.specs.Option.{option_map}
 use Rattle.std.specs.List.{slice_get, slice_range}
 use Rattle.std.proofs.lemmas.Option.{slice_get_within}
 use Rattle.std.proofs.lemmas.Bool.{cases_lt}
 use Rattle.sync_path.specs.Paths.{Node, parent}
 use Rattle.sync_command.specs.declared.commands.Row.{Row}
-use Rattle.sync_command.specs.Changes.{Change}
-use Rattle.refluent.specs.Joints.{path_at}
 use Rattle.refluent.specs.JointTables.{start_at, start_or}
 use Rattle.refluent.specs.JointParts.{AreRowsOf, row_of, sets_by}
 use Rattle.refluent.specs.Numberings.{AreLinks, IsNumbered, link_of, picks_of}
 use Rattle.refluent.specs.Picks.{IsParentPlace, net_commands}
-use Rattle.refluent.specs.Tables.{AreOrdered, HasGroup, IsGroup, IsParentGroup, IsTable, node_of}
+use Rattle.refluent.specs.Tables.{AreOrdered, IsGroup, IsParentGroup, IsTable, node_of}
 use Rattle.refluent.specs.declared.joint.Link.{Link}
 use Rattle.refluent.specs.declared.joint.Pick.{Pick}
 use Rattle.refluent.specs.declared.numbering.Numbering.{Numbering}

@@ -1,15 +1,13 @@
 -- What a log changes, by claims that say once what it touches.
-use Rattle.std.proofs.Common.{◌≡◌, ◌<◌, ◌≤◌, ◌+◌, ◌==◌, ℕ, zero, suc, Bool, true, false, not, ◌&&◌, List, [], ◌∷◌, ◌++◌, map, length, Option, Some, None, refl, sym, ap, subst, ◌∙◌, arith, ◌⊎◌, inl, inr}
+use Rattle.std.proofs.Common.{◌≡◌, ◌<◌, ◌+◌, ◌==◌, ℕ, zero, suc, Bool, true, false, ◌&&◌, List, [], ◌∷◌, length, Option, Some, None, refl, sym, ap, subst, ◌∙◌, arith}
 use Rattle.std.specs.Prelude.{if◌then◌else◌, is_none}
 use Rattle.std.specs.List.{slice_get}
-use Rattle.std.proofs.lemmas.Option.{slice_get_within}
 use Rattle.std.proofs.lemmas.Bool.Decides.{nat_tests}
 use Rattle.sync_path.specs.Paths.{Node, same_path}
-use Rattle.sync_command.specs.Values.{same_value}
 use Rattle.sync_command.specs.Changes.{Change, is_change}
-use Rattle.sync_command.specs.Trees.{command_at, one_each, Fits}
+use Rattle.sync_command.specs.Trees.{command_at, one_each}
 use Rattle.sync_command.specs.Maps.{at}
-use Rattle.canon_set.specs.Logs.{names, touches, net}
+use Rattle.canon_set.specs.Logs.{touches, net}
 use Rattle.canon_set.specs.Leaving.{above, leaves}
 use Rattle.canon_set.specs.Sets.{IsFitting, canonical}
 use Rattle.canon_set.specs.Sums.{Sum}

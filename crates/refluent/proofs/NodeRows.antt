@@ -1,13 +1,11 @@
 -- The rows made of the table are the nodes of the least common tree.
-use Rattle.std.proofs.Common.{◌≡◌, ◌<◌, ◌≤◌, ◌+◌, ◌-◌, ℕ, zero, suc, Bool, true, false, not, ◌&&◌, ◌||◌, List, [], ◌∷◌, ◌++◌, length, get_or, Option, Some, None, refl, sym, ap, subst, ◌∙◌, arith, ◌⊎◌, inl, inr}
+use Rattle.std.proofs.Common.{◌≡◌, ◌<◌, ◌≤◌, ◌+◌, ◌-◌, ℕ, zero, suc, Bool, true, false, ◌&&◌, ◌||◌, List, [], ◌∷◌, length, Option, Some, None, refl, sym, ap, subst, ◌∙◌, arith, ◌⊎◌, inl, inr}
 use Rattle.std.specs.Prelude.{if◌then◌else◌, is_some}
 use Rattle.std.specs.List.{slice_get, slice_range}
-use Rattle.std.proofs.lemmas.Option.{slice_get-get_or, get_or_from_slice_get, slice_get_within}
-use Rattle.std.proofs.lemmas.Bool.{cases_lt}
+use Rattle.std.proofs.lemmas.Option.{slice_get_within}
 use Rattle.sync_path.specs.Paths.{Node, same_path, comes_before}
 use Rattle.sync_command.specs.declared.values.Value.{Value}
 use Rattle.sync_command.specs.declared.values.Value.TheVariants as value
-use Rattle.sync_command.specs.Values.{same_value}
 use Rattle.sync_command.specs.declared.commands.Row.{Row}
 use Rattle.sync_command.specs.Changes.{Change}
 use Rattle.sync_command.specs.Trees.{command_at}
@@ -18,7 +16,7 @@ use Rattle.refluent.specs.Needs.{Need, Anything, AnyDirectory, Exactly, need, me
 use Rattle.refluent.specs.Joints.{EachStandsFor, value_in, comes_before_all, is_ascending, some_if, concerns}
 use Rattle.refluent.specs.FirstDisagreements.{log_at}
 use Rattle.refluent.specs.CommonTrees.{least_common_tree, joint_need, both_needs, least_value}
-use Rattle.refluent.specs.Tables.{IsTable, IsGroup, HasGroup, AreClaims, node_of, node_in, said, said_of, need_said}
+use Rattle.refluent.specs.Tables.{IsGroup, HasGroup, node_of, node_in, said, said_of, need_said}
 use Rattle.refluent.specs.JointParts.{AreRowsOf, AreNodesOf, row_of, value_by, first_or}
 use Rattle.refluent.specs.Comparisons.{IsAgreed}
 use Rattle.refluent.specs.declared.claims.Statement.{Statement}
@@ -31,7 +29,7 @@ use Rattle.refluent.proofs.Least.{AgreeAll, met_least}
 use Rattle.refluent.proofs.Agreeing.{agreeing, among_at}
 use Rattle.canon_set.proofs.CallerLemmas.{is_some-touches}
 use Rattle.sync_command.proofs.CallerLemmas.{same_value_is}
-use Rattle.sync_path.proofs.CallerLemmas.{same_path_is, same_path_at, same_path_refl, before_irrefl}
+use Rattle.sync_path.proofs.CallerLemmas.{same_path_is, same_path_at, before_irrefl}
 
 -- ---- rows by their places
 

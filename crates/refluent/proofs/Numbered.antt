@@ -1,5 +1,5 @@
 -- How the net commands of claims are numbered, claim by claim.
-use Rattle.std.proofs.Common.{◌≡◌, ◌<◌, ◌≤◌, ◌+◌, ◌-◌, ◌^◌, ◌==◌, ℕ, zero, suc, Bool, true, false, not, ◌&&◌, ◌||◌, List, [], ◌∷◌, ◌++◌, take, drop, get_or, length, Option, Some, None, refl, sym, ap, subst, ◌∙◌, arith, length-append, ◌⊎◌, inl, inr}
+use Rattle.std.proofs.Common.{◌≡◌, ◌<◌, ◌≤◌, ◌+◌, ◌==◌, ℕ, zero, suc, Bool, true, false, not, List, [], ◌∷◌, ◌++◌, take, drop, get_or, length, Option, Some, None, refl, sym, ap, subst, ◌∙◌, arith, length-append, ◌⊎◌, inl, inr}
 use Rattle.std.specs.Prelude.{cond, if◌then◌else◌, slice_index, slice_set}
 use Rattle.std.specs.List.{filter, list_any, slice_get, slice_range}
 use Rattle.std.specs.Option.{option_map}
@@ -14,8 +14,7 @@ use Rattle.refluent.specs.Sets.{is_in, without_repeats, differs_from}
 use Rattle.refluent.specs.Picks.{place_in}
 use Rattle.refluent.specs.Tables.{AreOrdered, AreSorted, IsGroup, IsTable}
 use Rattle.refluent.specs.JointParts.{change_in, changes_of, with_change}
-use Rattle.refluent.specs.Numberings.{AreLinks, IsNumbered, link_of, all_changes, makes_down, downs_in, others_in, pick_of, picks_of, with_pick, touch_alike}
-use Rattle.refluent.specs.declared.joint.Pick.{Pick}
+use Rattle.refluent.specs.Numberings.{AreLinks, IsNumbered, link_of, all_changes, makes_down, downs_in, others_in, picks_of, with_pick, touch_alike}
 use Rattle.refluent.specs.declared.joint.Link.{Link}
 use Rattle.refluent.specs.declared.numbering.Numbering.{Numbering}
 use Rattle.refluent.specs.declared.claims.Claim.{Claim}
@@ -24,7 +23,7 @@ use Rattle.refluent.proofs.Nets.{once_each}
 use Rattle.refluent.proofs.Contiguous.{StartsAt, starts_first, starts_next}
 use Rattle.refluent.proofs.Wanting.{set_at}
 use Rattle.refluent.proofs.CanonicalPlaces.{filter-append, is_other, place_down, place_other, rises}
-use Rattle.refluent.proofs.ClaimChanges.{HasParts, has_parts, changes-append, all-append, rises_changes, came_before, repeats_more}
+use Rattle.refluent.proofs.ClaimChanges.{has_parts, changes-append, all-append, rises_changes, came_before, repeats_more}
 
 -- ---- counts
 

@@ -1,7 +1,7 @@
 -- The least pair of demands that no value suits.
-use Rattle.std.proofs.Common.{◌≡◌, ◌<◌, ◌≤◌, ◌+◌, ℕ, Bool, true, false, not, List, length, get_or, Option, Some, None, refl, sym, ap, subst, ◌∙◌, arith, rules, ◌⊎◌, inl, inr, Bor}
+use Rattle.std.proofs.Common.{◌≡◌, ◌<◌, ◌≤◌, ◌+◌, ℕ, Bool, true, false, not, List, length, get_or, Option, Some, None, refl, sym, ap, subst, ◌∙◌, arith, ◌⊎◌, inl, inr, Bor}
 use Rattle.std.specs.List.{slice_get}
-use Rattle.std.proofs.lemmas.Option.{slice_get-get_or, get_or_from_slice_get, slice_get_read}
+use Rattle.std.proofs.lemmas.Option.{slice_get-get_or}
 use Rattle.std.proofs.lemmas.Bool.{cases_lt}
 use borrow.Author.Count.{below_more}
 use Rattle.sync_command.specs.declared.values.Value.{Value}
@@ -11,7 +11,7 @@ use Rattle.refluent.specs.Needs.{Need, Anything, AnyDirectory, Exactly, are_inco
 use Rattle.refluent.specs.Demands.{demanded, are_incompatible_demands, NoneIncompatible, NoPair, IsIncompatibleAt, IsFirstIncompatible, IsPairAt}
 use Rattle.refluent.specs.declared.demands.Demand.{Demand}
 use Rattle.refluent.specs.declared.demands.Demand.TheVariants as demand
-use Rattle.sync_command.proofs.CallerLemmas.{same_value_is, same_value_refl, same_value_at}
+use Rattle.sync_command.proofs.CallerLemmas.{same_value_is, same_value_at}
 
 some_is : {d e : Demand} → Some d ≡ Some e → d ≡ e
 some_is e = cc

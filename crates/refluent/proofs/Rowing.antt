@@ -1,18 +1,15 @@
 -- The nodes of a joint, one for each group.
-use Rattle.std.proofs.Common.{◌≡◌, ◌<◌, ◌≤◌, ◌+◌, ◌-◌, ℕ, zero, suc, Bool, true, false, not, ◌&&◌, ◌||◌, List, [], ◌∷◌, ◌++◌, length, get_or, Option, Some, None, refl, sym, ap, subst, ◌∙◌, arith, ◌⊎◌, inl, inr, length-append}
-use Rattle.std.specs.Prelude.{if◌then◌else◌}
+use Rattle.std.proofs.Common.{◌≡◌, ◌<◌, ◌≤◌, ◌+◌, ℕ, zero, suc, List, [], ◌∷◌, ◌++◌, length, get_or, Some, refl, sym, ap, subst, ◌∙◌, arith, ◌⊎◌, inl, inr, length-append}
 use Rattle.std.specs.List.{slice_get, slice_range}
-use Rattle.std.proofs.lemmas.Option.{slice_get-get_or, get_or_from_slice_get, slice_get_within}
+use Rattle.std.proofs.lemmas.Option.{slice_get-get_or, slice_get_within}
 use Rattle.std.proofs.lemmas.Bool.{cases_lt}
-use Rattle.sync_path.specs.Paths.{Node, same_path, comes_before}
+use Rattle.sync_path.specs.Paths.{Node}
 use Rattle.sync_command.specs.declared.values.Value.{Value}
 use Rattle.sync_command.specs.declared.commands.Row.{Row}
-use Rattle.refluent.specs.Tables.{IsTable, IsGroup, HasGroup, node_of}
+use Rattle.refluent.specs.Tables.{IsTable, node_of}
 use Rattle.refluent.specs.JointParts.{AreRowsOf, row_of, value_by}
-use Rattle.refluent.specs.Joints.{value_in, comes_before_all, is_ascending}
 use Rattle.refluent.specs.declared.claims.Claim.{Claim}
 use Rattle.refluent.specs.declared.table.Group.{Group}
-use Rattle.sync_path.proofs.CallerLemmas.{same_path_is, same_path_at}
 
 pub group_bounds : (claims : List Claim) (groups : List Group) → IsTable claims groups → (place : ℕ) → place < length groups → (z : Group) → ((get_or groups place z).start < length claims) × ((get_or groups place z).start ≤ (get_or groups place z).end) × ((get_or groups place z).end ≤ length claims)
 group_bounds claims groups table place low z = let group = (table.each place (get_or groups place z) (slice_get-get_or groups place z low)).0 in let a : (get_or groups place z).start < (get_or groups place z).end = group.some in let b : (get_or groups place z).end ≤ length claims = group.high in

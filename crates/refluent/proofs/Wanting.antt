@@ -1,20 +1,19 @@
 -- The demands that are written for one node are those of the logs there.
-use Rattle.std.proofs.Common.{◌≡◌, ◌<◌, ◌≤◌, ◌+◌, ◌-◌, ℕ, zero, suc, Bool, true, false, not, ◌&&◌, ◌||◌, List, [], ◌∷◌, map, take, drop, length, get_or, Option, Some, None, refl, sym, ap, subst, ◌∙◌, arith, rules, ◌⊎◌, inl, inr}
-use Rattle.std.specs.Prelude.{slice_set, is_some, nat_eq}
+use Rattle.std.proofs.Common.{◌≡◌, ◌<◌, ◌≤◌, ◌+◌, ◌-◌, ℕ, zero, suc, Bool, true, false, not, ◌&&◌, ◌||◌, List, [], ◌∷◌, map, take, drop, length, get_or, Option, Some, None, refl, sym, ap, subst, ◌∙◌, arith, ◌⊎◌, inl, inr}
+use Rattle.std.specs.Prelude.{slice_set, is_some}
 use Rattle.std.specs.List.{slice_get, slice_range}
 use Rattle.std.specs.Option.{option_map}
 use Rattle.std.proofs.lemmas.Option.{slice_get-map, slice_get_within, slice_get-get_or, get_or_from_slice_get}
-use Rattle.std.proofs.lemmas.Bool.{cases_lt}
 use Rattle.sync_path.specs.Paths.{Node, parent}
 use Rattle.sync_command.specs.declared.values.Value.TheVariants as value
 use Rattle.sync_command.specs.Changes.{Change}
 use Rattle.sync_command.specs.Trees.{command_at}
 use Rattle.canon_set.specs.Logs.{names, touches}
 use Rattle.canon_set.specs.Leaving.{above, leaves, starts_other, gives_other}
-use Rattle.refluent.specs.Needs.{Need, Anything, AnyDirectory, Exactly, need, need_by, needs_absent, leaves_parent}
+use Rattle.refluent.specs.Needs.{Need, Anything, Exactly, need, need_by, needs_absent, leaves_parent}
 use Rattle.refluent.specs.FirstDisagreements.{log_at}
 use Rattle.refluent.specs.Demands.{demanded}
-use Rattle.refluent.specs.Tables.{said, said_of, wanted, wanted_of, AreClaims, IsGroup, IsTable, HasGroup, IsParentGroup, AreFor, node_of, write_own, write_absent, write_if, need_said, leaves_by}
+use Rattle.refluent.specs.Tables.{said, said_of, wanted, wanted_of, AreClaims, IsGroup, IsTable, IsParentGroup, AreFor, node_of, write_own, write_absent, write_if, need_said, leaves_by}
 use Rattle.refluent.specs.declared.claims.Statement.{Statement}
 use Rattle.refluent.specs.declared.claims.Statement.TheVariants.{Above, Touches}
 use Rattle.refluent.specs.declared.claims.Claim.{Claim}

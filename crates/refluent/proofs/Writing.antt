@@ -1,9 +1,8 @@
 -- How the demands of one node are written, log by log.
-use Rattle.std.proofs.Common.{◌≡◌, ◌<◌, ◌≤◌, ◌+◌, ◌-◌, ℕ, zero, suc, Bool, true, false, List, [], ◌∷◌, ◌++◌, map, take, drop, length, get_or, Option, Some, None, refl, sym, ap, subst, ◌∙◌, arith, ◌⊎◌, inl, inr}
+use Rattle.std.proofs.Common.{◌≡◌, ◌<◌, ◌+◌, ℕ, Bool, true, false, List, [], ◌∷◌, ◌++◌, map, take, length, get_or, refl, sym, ap, ◌∙◌}
 use Rattle.std.specs.Prelude.{slice_set, if◌then◌else◌}
-use Rattle.std.specs.List.{slice_get, slice_range}
 use Rattle.std.proofs.lemmas.List.{map-set, take_more}
-use Rattle.refluent.specs.Needs.{Need, Anything, AnyDirectory, Exactly}
+use Rattle.refluent.specs.Needs.{Need}
 use Rattle.refluent.specs.Demands.{demanded}
 use Rattle.refluent.specs.Tables.{write_own, write_absent, write_if, need_said, leaves_by}
 use Rattle.refluent.specs.declared.claims.Claim.{Claim}

@@ -1,5 +1,5 @@
 -- How logs compare, once their claims are sorted.
-use Rattle.std.specs.Prelude.{◌≡◌, ℕ, ◌<◌, Bool, true, false, List, length}
+use Rattle.std.specs.Prelude.{◌≡◌, ℕ, ◌<◌, false, List}
 use Rattle.sync_path.specs.Paths.{Node}
 use Rattle.sync_command.specs.Changes.{Change}
 use Rattle.refluent.specs.Needs.{disagree}

@@ -1,5 +1,5 @@
 -- The net commands of sorted claims by their places in the net sets, and how many are drawn.
-use Rattle.std.specs.Prelude.{◌≡◌, ◌<◌, ◌≤◌, ◌+◌, ℕ, Bool, true, false, not, ◌&&◌, List, [], ◌∷◌, length, slice_get, take, drop, Option, Some, None}
+use Rattle.std.specs.Prelude.{◌≡◌, ◌<◌, ◌+◌, ℕ, Bool, true, false, not, ◌&&◌, List, [], ◌∷◌, length, slice_get, take, drop, Option, Some, None}
 use Rattle.std.specs.List.{filter}
 use Rattle.sync_command.specs.Values.{same_value}
 use Rattle.sync_command.specs.Changes.{Change, is_down}

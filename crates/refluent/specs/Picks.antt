@@ -1,9 +1,9 @@
 -- Which net commands name a node, and where they are in the net sets.
-use Rattle.std.specs.Prelude.{◌≡◌, ◌<◌, ◌≤◌, ◌+◌, ◌-◌, ℕ, Bool, true, false, not, ◌&&◌, ◌||◌, List, [], ◌∷◌, length, slice_get, take, drop, is_some, Option, Some, None, if◌then◌else◌}
-use Rattle.std.specs.List.{filter, position_or_len}
-use Rattle.sync_path.specs.Paths.{Node, same_path, parent}
+use Rattle.std.specs.Prelude.{◌≡◌, ◌+◌, ℕ, List, [], ◌∷◌, is_some, Option, Some, None, if◌then◌else◌}
+use Rattle.std.specs.List.{position_or_len}
+use Rattle.sync_path.specs.Paths.{Node, same_path}
 use Rattle.sync_command.specs.declared.commands.Row.{Row}
-use Rattle.sync_command.specs.Changes.{Change, is_down}
+use Rattle.sync_command.specs.Changes.{Change}
 use Rattle.sync_command.specs.Trees.{command_at}
 use Rattle.refluent.specs.declared.joint.Pick.{Pick}
 use Rattle.refluent.specs.Joints.{path_at}

@@ -1,12 +1,12 @@
 -- The table of nodes over the sorted claims of the logs.
-use Rattle.std.specs.Prelude.{◌≡◌, ℕ, ◌<◌, ◌≤◌, ◌+◌, Bool, true, false, ◌&&◌, List, [], ◌∷◌, ◌++◌, length, map, slice_get, slice_set, slice_range, Option, Some, None}
+use Rattle.std.specs.Prelude.{◌≡◌, ℕ, ◌<◌, ◌≤◌, Bool, true, false, List, [], ◌∷◌, ◌++◌, length, slice_get, slice_set, Option, Some, None}
 use Rattle.std.specs.Ordering.{nat_cmp, ordering_then}
 use Rattle.std.specs.declared.cmp.Ordering.{Ordering}
 use Rattle.sync_path.specs.Paths.{Node, parent, comes_before, path_cmp}
 use Rattle.sync_command.specs.declared.values.Value.TheVariants as value
 use Rattle.sync_command.specs.Changes.{Change}
 use Rattle.sync_command.specs.Trees.{command_at}
-use Rattle.canon_set.specs.Logs.{names, touches}
+use Rattle.canon_set.specs.Logs.{touches}
 use Rattle.canon_set.specs.Leaving.{above, leaves}
 use Rattle.canon_set.specs.Sums.{Sum, StandsFor}
 use Rattle.canon_set.specs.declared.touches.Touch.{Touch}

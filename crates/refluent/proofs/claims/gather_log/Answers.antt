@@ -1,8 +1,6 @@
-use Rattle.std.proofs.Common.{◌≡◌, length, arith, ap, ◌∙◌, map, sym, subst}
+use Rattle.std.proofs.Common.{◌≡◌, length, arith, ap, ◌∙◌, sym}
 use Rattle.std.proofs.lemmas.Iterator.Consumers.{YieldsList-end}
 use Rattle.std.proofs.lemmas.Iterator.Adapters.{YieldsList-from_vec}
-use Rattle.canon_set.specs.Leaving.{above}
-use Rattle.canon_set.specs.Logs.{names}
 use Rattle.canon_set.specs.Entries.{has}
 use Rattle.refluent.proofs.Gathering.{adds, map_self}
 use Rattle.refluent.proofs.claims.gather_log.Goals as goal

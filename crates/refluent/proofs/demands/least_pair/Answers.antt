@@ -1,5 +1,4 @@
-use Rattle.std.proofs.Common.{◌≡◌, true, false, Bool, not, sym, ◌∙◌, ap}
-use Rattle.refluent.proofs.Pairs.{settled_by, rows_nothing, rows_seen, rows_first, pair_at}
+use Rattle.refluent.proofs.Pairs.{settled_by, rows_nothing, rows_seen, rows_first}
 use Rattle.refluent.proofs.demands.least_pair.Goals as goal
 use Rattle.refluent.proofs.demands.least_pair.Goals.{in-Anything, in-AnyDirectory+then-not-is_dir_seen+in_default, in-AnyDirectory+else-not-is_dir_seen}
 

@@ -1,4 +1,4 @@
-use Rattle.std.proofs.Common.{◌≡◌, ◌<◌, ◌≤◌, ◌+◌, length, arith, refl}
+use Rattle.std.proofs.Common.{◌+◌, arith, refl}
 use Rattle.refluent.proofs.FamilySteps.{families_step, up_here}
 use Rattle.refluent.proofs.families.families_of.Goals as goal
 

@@ -1,5 +1,5 @@
 use Rattle.refluent.specs.Tables.{IsTable}
-use Rattle.std.proofs.Common.{subst, sym, ◌∙◌, arith, rules}
+use Rattle.std.proofs.Common.{subst}
 use Rattle.refluent.proofs.Judging.{agreed, disagreed, disagreement_group, place_within, pair_within}
 use Rattle.refluent.proofs.joining.compare_claims.Goals as goal
 

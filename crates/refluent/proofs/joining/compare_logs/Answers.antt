@@ -1,4 +1,4 @@
-use Rattle.std.proofs.Common.{◌≡◌, ◌+◌, length, arith, sym, ◌∙◌, subst, refl, ap}
+use Rattle.std.proofs.Common.{◌+◌, arith, ◌∙◌, subst}
 use Rattle.refluent.specs.Comparisons.{IsComparison, IsComparisonOf}
 use Rattle.refluent.proofs.Gathering.{are_sorted, each_length, are_ordered}
 use Rattle.refluent.proofs.Comparing.{still, closed, below, agreed_tree, refused_by_one, err_is}

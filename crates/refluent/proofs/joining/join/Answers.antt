@@ -1,4 +1,4 @@
-use Rattle.std.proofs.Common.{◌≡◌, length, arith, sym, ◌∙◌, subst, ap, Err}
+use Rattle.std.proofs.Common.{arith, sym, ◌∙◌, ap, Err}
 use Rattle.refluent.specs.declared.faults.JoinFault.TheVariants.{NoCommonTree}
 use Rattle.refluent.proofs.Assembling.{have_nets, stands_for, held, rows_here, logs_here, err_by, linked_here, numbered_here}
 use Rattle.refluent.proofs.FamilyPaths.{has_families, up_low_here}

@@ -1,4 +1,4 @@
-use Rattle.std.proofs.Common.{◌≡◌, ◌<◌, ◌≤◌, ◌+◌, length, arith, sym, ◌∙◌, ap, subst}
+use Rattle.std.proofs.Common.{◌+◌, length, arith, sym, ◌∙◌, ap, subst}
 use Rattle.std.proofs.Math.ListN.{length-set}
 use Rattle.refluent.proofs.Numbered.{AreDowns, count_then, count_else, downs_few, log_low}
 use Rattle.refluent.proofs.numbering.count_downs.Goals as goal

@@ -1,7 +1,7 @@
-use Rattle.std.proofs.Common.{◌≡◌, ◌<◌, ◌≤◌, ◌+◌, length, arith, sym, ◌∙◌, ap, subst, refl}
+use Rattle.std.proofs.Common.{arith, sym, ◌∙◌, subst}
 use Rattle.std.proofs.lemmas.Option.{slice_get-get_or}
 use Rattle.refluent.specs.Numberings.{AreLinks}
-use Rattle.refluent.proofs.Numbered.{to_first, to_next, numbered_at, numbered_whole, links_first, links_next}
+use Rattle.refluent.proofs.Numbered.{to_first, to_next, numbered_at, links_first, links_next}
 use Rattle.refluent.proofs.numbering.number_commands.Goals as goal
 
 pub groups-init : goal.groups-init

@@ -1,4 +1,4 @@
-use Rattle.std.proofs.Common.{◌≡◌, sym, ◌∙◌}
+use Rattle.std.proofs.Common.{sym, ◌∙◌}
 use Rattle.refluent.proofs.Listing.{lists_none, lists_put, none_there}
 use Rattle.refluent.proofs.parts.lists_of.Goals as goal
 

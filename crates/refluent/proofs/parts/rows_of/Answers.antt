@@ -1,4 +1,4 @@
-use Rattle.std.proofs.Common.{◌≡◌, ◌<◌, ◌≤◌, length, arith, rules}
+use Rattle.std.proofs.Common.{arith}
 use Rattle.refluent.proofs.Rowing.{group_bounds, rows_more, rows_done}
 use Rattle.refluent.proofs.parts.rows_of.Goals as goal
 

@@ -1,4 +1,4 @@
-use Rattle.std.proofs.Common.{◌≡◌, ◌++◌, length, arith, ap, ◌∙◌, map, sym, subst}
+use Rattle.std.proofs.Common.{◌≡◌, length, arith, ap, ◌∙◌, map, sym}
 use Rattle.std.proofs.lemmas.Iterator.Consumers.{YieldsList-end, YieldsList-turn}
 use Rattle.std.proofs.lemmas.Iterator.Adapters.{YieldsList-from_vec}
 use Rattle.canon_set.specs.Sets.{canonical}

@@ -1,6 +1,4 @@
-use Rattle.std.proofs.Common.{◌≡◌, ◌<◌, ◌*◌, ◌^◌, ℕ, length, Fits, w64, arith, sym, ◌∙◌, rules, subst, Some, None}
-use Rattle.std.specs.List.{slice_get}
-use Rattle.refluent.specs.declared.claims.Claim.{Claim}
+use Rattle.std.proofs.Common.{◌<◌, length, arith, rules}
 use Rattle.refluent.proofs.Wanting.{parent_below, group_run, run_logs, for_root, for_child, none_of}
 use Rattle.refluent.proofs.table.demand.Goals as goal
 use Rattle.refluent.proofs.table.demand.Goals.{in-Some, in_default}

@@ -1,6 +1,6 @@
-use Rattle.std.proofs.Common.{◌≡◌, ◌<◌, Some, arith, rules, length, sym, get_or, refl, ap, ◌∙◌, subst}
+use Rattle.std.proofs.Common.{length, sym, refl, ap, ◌∙◌}
 use Rattle.std.proofs.lemmas.Option.{slice_get-get_or, slice_get_read}
-use Rattle.refluent.proofs.Climbing.{climb_first, climb_next, climb_found, climb_none, for_claim, root_none, start_low, less_rest, under_known, deep_of}
+use Rattle.refluent.proofs.Climbing.{climb_first, climb_next, climb_found, for_claim, root_none, start_low, less_rest, under_known, deep_of}
 use Rattle.refluent.proofs.table.find_parent.Goals as goal
 
 pub returns-then-depth-eq1 : goal.returns-then-depth-eq1

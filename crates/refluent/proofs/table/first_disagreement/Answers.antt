@@ -1,5 +1,4 @@
-use Rattle.std.proofs.Common.{◌≡◌, length, sym, ◌∙◌, arith, ap, List, ℕ}
-use Rattle.refluent.specs.declared.demands.Demand.{Demand}
+use Rattle.std.proofs.Common.{◌≡◌, length, sym, ◌∙◌, arith, ap}
 use Rattle.refluent.proofs.Disagreeing.{step_all, written, within_step}
 use Rattle.refluent.proofs.table.first_disagreement.Goals as goal
 

@@ -1,4 +1,4 @@
-use Rattle.std.proofs.Common.{◌≡◌, ◌<◌, ◌≤◌, ◌+◌, arith, rules, length, sym, ap, ◌∙◌, subst, true, false}
+use Rattle.std.proofs.Common.{◌≡◌, ◌+◌, arith, length, sym, ap, ◌∙◌, subst, true, false}
 use Rattle.sync_path.specs.Paths.{parent}
 use Rattle.refluent.specs.Tables.{IsParentGroup}
 use Rattle.refluent.proofs.Climbing.{with_node, with_claim, grown, Grows}

@@ -1,4 +1,4 @@
-use Rattle.std.proofs.Common.{◌≡◌, map, take, length}
+use Rattle.std.proofs.Common.{◌≡◌, map, take}
 use Rattle.refluent.specs.Demands.{demanded}
 use Rattle.refluent.specs.Tables.{write_absent}
 use Rattle.refluent.proofs.table.write_absent.Given as goal

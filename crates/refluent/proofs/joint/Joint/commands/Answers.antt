@@ -1,4 +1,4 @@
-use Rattle.std.proofs.Common.{◌≡◌, ◌<◌, length, arith, sym, ap, ◌∙◌}
+use Rattle.std.proofs.Common.{length, arith, ap, ◌∙◌}
 use Rattle.refluent.specs.Joints.{path_at}
 use Rattle.refluent.specs.Picks.{net_commands}
 use Rattle.refluent.proofs.Holding.{in_bounds, are_commands}

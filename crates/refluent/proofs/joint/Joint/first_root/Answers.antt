@@ -1,4 +1,4 @@
-use Rattle.std.proofs.Common.{◌≡◌, length, arith, subst, None}
+use Rattle.std.proofs.Common.{arith, subst, None}
 use Rattle.refluent.specs.Families.{IsFirstChild}
 use Rattle.refluent.proofs.FamilyPaths.{root_found}
 use Rattle.refluent.proofs.joint.Joint.first_root.Goals as goal

@@ -1,4 +1,4 @@
-use Rattle.std.proofs.Common.{◌≡◌, ◌<◌, ◌≤◌, ◌+◌, length, arith, sym, ◌∙◌, ap, subst}
+use Rattle.std.proofs.Common.{arith}
 use Rattle.refluent.proofs.Numbered.{add_down, add_room, add_more, add_none, group_low, log_few, drawn_low, if_repeated, if_new}
 use Rattle.refluent.proofs.numbering.Numbering.add.Goals as goal
 
