@@ -77,9 +77,9 @@ pub path_eq-flip : (a q : Node) → path_eq a q ≡ same_path q a
 unfolding same_path
 path_eq-flip a q = path_eq_equiv.symm a q
 
-module _ (old new : Table) (a : Node) (s v : Entry) (was : ◌≡◌ {A = Option Entry} (Some s) (old a)) (wrote : (q : Node) → new q ≡ cond (path_eq a q) (Some v) (old q)) where
+module _ (old new : Table) (a : Node) (s v : Entry) (was : ◌≡◌ {A = Option Entry} (Some s) (old a)) (written_at : (q : Node) → new q ≡ cond (path_eq a q) (Some v) (old q)) where
   pub written : (f : Option Entry → Option Entry) → f (Some s) ≡ Some v → (p : Node) → new p ≡ (if same_path p a then f (old p) else old p)
-  written f e p = wrote p ∙ ap (λ b. cond b (Some v) (old p)) (path_eq-flip a p) ∙ go (same_path p a) (same_path_is p a)
+  written f e p = written_at p ∙ ap (λ b. cond b (Some v) (old p)) (path_eq-flip a p) ∙ go (same_path p a) (same_path_is p a)
     where
       go : (b : Bool) → (b ≡ true → p ≡ a) → cond b (Some v) (old p) ≡ (if b then f (old p) else old p)
       go true is = sym (ap (λ r. f (old r)) (is refl) ∙ ap f (sym was) ∙ e)
@@ -87,7 +87,7 @@ module _ (old new : Table) (a : Node) (s v : Entry) (was : ◌≡◌ {A = Option
 
   -- a write of what is there changes nothing
   pub written_same : s ≡ v → (p : Node) → new p ≡ old p
-  written_same e p = wrote p ∙ ap (λ b. cond b (Some v) (old p)) (path_eq-flip a p) ∙ go (same_path p a) (same_path_is p a)
+  written_same e p = written_at p ∙ ap (λ b. cond b (Some v) (old p)) (path_eq-flip a p) ∙ go (same_path p a) (same_path_is p a)
     where
       go : (b : Bool) → (b ≡ true → p ≡ a) → cond b (Some v) (old p) ≡ old p
       go true is = sym (ap old (is refl) ∙ sym was ∙ ap Some e)
@@ -102,7 +102,7 @@ unwritten old new a gone same f e p = same p ∙ go (same_path p a) (same_path_i
 
 -- a write at the parent of the node, or none where it is a root, counts the node there
 pub child_written : (more : Bool) (old new : Table) (n q : Node) → parent n ≡ Some q → ((p : Node) → new p ≡ (if same_path p q then recounted more (old p) else old p)) → (p : Node) → new p ≡ with_child more n old p
-child_written more old new n q up wrote p = wrote p ∙ ap (λ o. if is_parent o p then recounted more (old p) else old p) (sym up)
+child_written more old new n q up written_at p = written_at p ∙ ap (λ o. if is_parent o p then recounted more (old p) else old p) (sym up)
 
 pub root_written : (more : Bool) (old new : Table) (n : Node) → parent n ≡ None → ((p : Node) → new p ≡ old p) → (p : Node) → new p ≡ with_child more n old p
 root_written more old new n up same p = same p ∙ ap (λ o. if is_parent o p then recounted more (old p) else old p) (sym up)
@@ -113,7 +113,7 @@ with_child_same more n old new same p = ap (λ o. if is_child n p then recounted
 -- a node without children comes in after its parent has counted it
 pub put_in : (old mid new : Table) (n : Node) (v : Value) → ((p : Node) → mid p ≡ with_child true n old p) → ((q : Node) → new q ≡ cond (path_eq n q) (entry_with v) (mid q)) →
     (p : Node) → new p ≡ (if same_path p n then entry_with v else with_child true n old p)
-put_in old mid new n v counted wrote p = wrote p ∙ ap (λ b. cond b (entry_with v) (mid p)) (path_eq-flip n p) ∙ ap (λ o. if same_path p n then entry_with v else o) (counted p)
+put_in old mid new n v counted written_at p = written_at p ∙ ap (λ b. cond b (entry_with v) (mid p)) (path_eq-flip n p) ∙ ap (λ o. if same_path p n then entry_with v else o) (counted p)
 
 -- the same of a node that is emptied first; its parent is another
 pub taken_out : (old mid new : Table) (n : Node) (v : Value) → ((p : Node) → mid p ≡ (if same_path p n then revalued v (old p) else old p)) → ((p : Node) → new p ≡ with_child false n mid p) →

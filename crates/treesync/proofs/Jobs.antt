@@ -24,7 +24,7 @@ use Rattle.treesync.specs.Logs.{IsLog, IsLogFile, IsTotalOf, ReadLog}
 use Rattle.treesync.specs.Replay.{IsAfter, IsRefusedAt, IsReplay, later_version, run_refusal}
 use Rattle.treesync.specs.declared.input.TheConstants.{FILE_LIMIT}
 use Rattle.treesync.specs.declared.logs.LogFile.{LogFile}
-use Rattle.treesync.specs.declared.logs.TheConstants.{WHOLE_ROOM}
+use Rattle.treesync.specs.declared.logs.TheConstants.{FULL_ALLOWANCE}
 use Rattle.treesync.specs.declared.refusal.Refusal.{Refusal}
 use Rattle.treesync.specs.declared.refusal.Refusal.TheVariants.{InvalidArguments, OutOfMemory, ReadFailed, Found}
 use Rattle.treesync.specs.declared.refusal.Finding.TheVariants.{NoTree, NotTaken}
@@ -109,17 +109,17 @@ module _ (snap_word : ℕ) (snap : List ℕ) (log_word : ℕ) (log : List ℕ) w
   module _ (before mid now : FilesState) (snapshot : Snapshot) (result : Result (Vec ℕ Global) Refusal)
       (first : Answers HasRows (IsSnapshot snap_word snap) (FILE_LIMIT ∷ []) before mid (Ok snapshot)) where
     -- the log's file was refused
-    pub log_refused : (r : Refusal) → IsErrAnd result (λ e. e ≡ r) → Answers {X = Commands} (IsLogFile HasItems) (IsLog WHOLE_ROOM log_word log) (FILE_LIMIT ∷ []) mid now (Err r) →
+    pub log_refused : (r : Refusal) → IsErrAnd result (λ e. e ≡ r) → Answers {X = Commands} (IsLogFile HasItems) (IsLog FULL_ALLOWANCE log_word log) (FILE_LIMIT ∷ []) mid now (Err r) →
         Answers HasItems (IsReplay snap_word snap log_word log) (FILE_LIMIT ∷ FILE_LIMIT ∷ []) before now result
     log_refused r e a =
         then_next HasRows HasItems (IsSnapshot snap_word snap) _ (FILE_LIMIT ∷ []) (FILE_LIMIT ∷ []) (FILE_LIMIT ∷ FILE_LIMIT ∷ []) before mid now snapshot result refl first
-        (λ s h. then_handed_on (IsLogFile HasItems) HasItems (IsLog WHOLE_ROOM log_word log) _ (FILE_LIMIT ∷ []) mid now r result e a)
+        (λ s h. then_handed_on (IsLogFile HasItems) HasItems (IsLog FULL_ALLOWANCE log_word log) _ (FILE_LIMIT ∷ []) mid now r result e a)
 
     -- both files were read
-    pub log_read : (commands : Commands) → Answers (IsLogFile HasItems) (IsLog WHOLE_ROOM log_word log) (FILE_LIMIT ∷ []) mid now (Ok commands) →
+    pub log_read : (commands : Commands) → Answers (IsLogFile HasItems) (IsLog FULL_ALLOWANCE log_word log) (FILE_LIMIT ∷ []) mid now (Ok commands) →
         ((read : ReadLog) → IsLogFile HasItems commands read → IsJudged HasItems (IsAfter log_word (snapshot.0, snapshot.1.items) read) result) →
         Answers HasItems (IsReplay snap_word snap log_word log) (FILE_LIMIT ∷ FILE_LIMIT ∷ []) before now result
     log_read commands a judged =
         then_next HasRows HasItems (IsSnapshot snap_word snap) _ (FILE_LIMIT ∷ []) (FILE_LIMIT ∷ []) (FILE_LIMIT ∷ FILE_LIMIT ∷ []) before mid now snapshot result refl first
-        (λ s h. then_judged (IsLogFile HasItems) HasItems (IsLog WHOLE_ROOM log_word log) (IsAfter log_word s) (FILE_LIMIT ∷ []) mid now commands result a
+        (λ s h. then_judged (IsLogFile HasItems) HasItems (IsLog FULL_ALLOWANCE log_word log) (IsAfter log_word s) (FILE_LIMIT ∷ []) mid now commands result a
         (λ read l. subst (λ x. IsJudged HasItems (IsAfter log_word x read) result) h (judged read l)))

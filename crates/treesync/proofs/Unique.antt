@@ -20,8 +20,8 @@ use Rattle.treesync.specs.Canon.{IsCanon, IsNet}
 use Rattle.treesync.specs.Files.{IsFile, IsSnapshot, text_answer}
 use Rattle.treesync.specs.Logs.{IsLog, ReadLog, log_answer}
 use Rattle.treesync.specs.declared.input.TheConstants.{FILE_LIMIT}
-use Rattle.treesync.specs.declared.logs.Room.{Room}
-use Rattle.treesync.specs.declared.logs.TheConstants.{WHOLE_ROOM}
+use Rattle.treesync.specs.declared.logs.Allowance.{Allowance}
+use Rattle.treesync.specs.declared.logs.TheConstants.{FULL_ALLOWANCE}
 use Rattle.treesync.specs.Jobs.{IsAnswer, IsAnswerOf, IsJobAnswer}
 use Rattle.treesync.specs.Replay.{IsAfter, IsRefusedAt, IsReplay}
 use Rattle.treesync.specs.declared.refusal.Refusal.{Refusal}
@@ -57,10 +57,10 @@ then_one P Q first next held one other (inr p) (inr q) =
 file_one : (limit word : ℕ) (name : List ℕ) → IsOne (IsFile limit word name)
 file_one limit word name held one other p q = p ∙ sym q
 
-log_one : (room : Room) (word : ℕ) (name : List ℕ) → IsOne (IsLog room word name)
-log_one room word name =
-    then_one (IsFile room.bytes word name) (λ bytes. Judged (λ answer. answer ≡ log_answer room.commands word (length bytes) (log_of (parts 10 bytes))))
-    (file_one room.bytes word name) (λ bytes. named_one (log_answer room.commands word (length bytes) (log_of (parts 10 bytes))))
+log_one : (allowance : Allowance) (word : ℕ) (name : List ℕ) → IsOne (IsLog allowance word name)
+log_one allowance word name =
+    then_one (IsFile allowance.bytes word name) (λ bytes. Judged (λ answer. answer ≡ log_answer allowance.commands word (length bytes) (log_of (parts 10 bytes))))
+    (file_one allowance.bytes word name) (λ bytes. named_one (log_answer allowance.commands word (length bytes) (log_of (parts 10 bytes))))
 
 snapshot_one : (word : ℕ) (name : List ℕ) → IsOne (IsSnapshot word name)
 snapshot_one word name =
@@ -107,7 +107,7 @@ net_one word log held (Err r) (Err s) p q = ap Err (p.1 ∙ ap (λ n. Found (NoT
     same = first_failing (λ k. IsTaken (take k log.commands)) (taken_shorter log.commands) p.0 q.0 p.2.2 p.2.3 q.2.2 q.2.3
 
 canon_one : (word : ℕ) (log : List ℕ) → IsOne (IsCanon word log)
-canon_one word log = then_one (IsLog WHOLE_ROOM word log) (λ read. Judged (IsNet word read)) (log_one WHOLE_ROOM word log) (net_one word)
+canon_one word log = then_one (IsLog FULL_ALLOWANCE word log) (λ read. Judged (IsNet word read)) (log_one FULL_ALLOWANCE word log) (net_one word)
 
 -- ---- the log on a snapshot's tree
 
@@ -142,8 +142,8 @@ after_one word (version, rows) log held (Err r) (Err s) p q = ap Err (p.1 ∙ ap
 
 replay_one : (snap_word : ℕ) (snap : List ℕ) (log_word : ℕ) (log : List ℕ) → IsOne (IsReplay snap_word snap log_word log)
 replay_one snap_word snap log_word log =
-    then_one (IsSnapshot snap_word snap) (λ snapshot. Then (IsLog WHOLE_ROOM log_word log) (λ read. Judged (IsAfter log_word snapshot read))) (snapshot_one snap_word snap) (λ snapshot.
-    then_one (IsLog WHOLE_ROOM log_word log) (λ read. Judged (IsAfter log_word snapshot read)) (log_one WHOLE_ROOM log_word log) (after_one log_word snapshot))
+    then_one (IsSnapshot snap_word snap) (λ snapshot. Then (IsLog FULL_ALLOWANCE log_word log) (λ read. Judged (IsAfter log_word snapshot read))) (snapshot_one snap_word snap) (λ snapshot.
+    then_one (IsLog FULL_ALLOWANCE log_word log) (λ read. Judged (IsAfter log_word snapshot read)) (log_one FULL_ALLOWANCE log_word log) (after_one log_word snapshot))
 
 -- ---- the answer of words
 

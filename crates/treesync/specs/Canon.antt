@@ -5,7 +5,7 @@ use Rattle.canon_set.specs.Sets.{canonical}
 use Rattle.log_text.specs.Logs.{log_text}
 use Rattle.treesync.specs.Checks.{Check, Judged, Then}
 use Rattle.treesync.specs.Logs.{IsLog, ReadLog}
-use Rattle.treesync.specs.declared.logs.TheConstants.{WHOLE_ROOM}
+use Rattle.treesync.specs.declared.logs.TheConstants.{FULL_ALLOWANCE}
 use Rattle.treesync.specs.declared.refusal.Refusal.{Refusal}
 use Rattle.treesync.specs.declared.refusal.Refusal.TheVariants.{Found}
 use Rattle.treesync.specs.declared.refusal.Finding.TheVariants.{NoTree}
@@ -16,4 +16,4 @@ IsNet word log (Ok text) = IsTaken log.commands × (text ≡ log_text log.versio
 IsNet word log (Err r) = (number : ℕ) × (r ≡ Found (NoTree word number)) × IsBrokenAt log.commands number
 
 abbrev pub IsCanon : ℕ → List ℕ → Check (List ℕ)
-IsCanon word name = Then (IsLog WHOLE_ROOM word name) (λ log. Judged (IsNet word log))
+IsCanon word name = Then (IsLog FULL_ALLOWANCE word name) (λ log. Judged (IsNet word log))

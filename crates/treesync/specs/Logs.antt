@@ -12,7 +12,7 @@ use Rattle.log_text.specs.Logs.{IsOfVersion, log_of}
 use Rattle.log_text.specs.declared.reader.LogReader.{LogReader}
 use Rattle.treesync.specs.Checks.{Check, Judged, Then}
 use Rattle.treesync.specs.Files.{IsFile}
-use Rattle.treesync.specs.declared.logs.Room.{Room}
+use Rattle.treesync.specs.declared.logs.Allowance.{Allowance}
 use Rattle.treesync.specs.declared.logs.LogFile.{LogFile}
 use Rattle.treesync.specs.declared.logs.Total.{Total}
 use Rattle.treesync.specs.declared.refusal.Refusal.{Refusal}
@@ -34,9 +34,9 @@ log_answer most word size (Ok (version, cs)) =
 log_answer most word size (Err fault) = Err (Found (Text word fault))
 
 -- a log within the bytes and the commands that are left for it
-abbrev pub IsLog : Room → ℕ → List ℕ → Check ReadLog
-IsLog room word name =
-    Then (IsFile room.bytes word name) (λ bytes. Judged (λ answer. answer ≡ log_answer room.commands word (length bytes) (log_of (parts 10 bytes))))
+abbrev pub IsLog : Allowance → ℕ → List ℕ → Check ReadLog
+IsLog allowance word name =
+    Then (IsFile allowance.bytes word name) (λ bytes. Judged (λ answer. answer ≡ log_answer allowance.commands word (length bytes) (log_of (parts 10 bytes))))
 
 -- ---- what is made of the commands as they come
 

@@ -14,7 +14,7 @@ use Rattle.log_text.specs.Snapshots.{snapshot_text}
 use Rattle.treesync.specs.Checks.{Check, Judged, Then}
 use Rattle.treesync.specs.Files.{IsSnapshot}
 use Rattle.treesync.specs.Logs.{IsLog, ReadLog}
-use Rattle.treesync.specs.declared.logs.TheConstants.{WHOLE_ROOM}
+use Rattle.treesync.specs.declared.logs.TheConstants.{FULL_ALLOWANCE}
 use Rattle.treesync.specs.declared.refusal.Refusal.{Refusal}
 use Rattle.treesync.specs.declared.refusal.Refusal.TheVariants.{OutOfMemory, Found}
 use Rattle.treesync.specs.declared.refusal.Finding.TheVariants.{NotTaken}
@@ -36,7 +36,7 @@ IsAfter word (version, rows) log (Ok text) =
 IsAfter word (version, rows) log (Err r) = (number : ℕ) × (r ≡ Found (NotTaken word number)) × IsRefusedAt (store_of rows) log.commands number
 
 abbrev pub IsReplay : ℕ → List ℕ → ℕ → List ℕ → Check (List ℕ)
-IsReplay snap_word snap log_word log = Then (IsSnapshot snap_word snap) (λ snapshot. Then (IsLog WHOLE_ROOM log_word log) (λ read. Judged (IsAfter log_word snapshot read)))
+IsReplay snap_word snap log_word log = Then (IsSnapshot snap_word snap) (λ snapshot. Then (IsLog FULL_ALLOWANCE log_word log) (λ read. Judged (IsAfter log_word snapshot read)))
 
 -- what a log that broke off is refused with
 abbrev pub run_refusal : ℕ → RunBreak → Refusal

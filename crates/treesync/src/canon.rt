@@ -6,7 +6,7 @@ ghost use Rattle.treesync.specs.Canon.{IsCanon, IsNet};
 ghost use Rattle.treesync.specs.Logs.{IsLogFile, IsTotal, ReadLog};
 
 use crate::input::FILE_LIMIT;
-use crate::logs::{LogFile, Total, WHOLE_ROOM, read_log};
+use crate::logs::{LogFile, Total, FULL_ALLOWANCE, read_log};
 use crate::{Finding, Refusal};
 use canon_set::LogSum;
 use log_text::print_log;
@@ -41,6 +41,6 @@ pub fn canon<F: Files>(
         sum: LogSum::new(alloc),
         broken: None,
     };
-    let log = read_log(alloc, word, name, WHOLE_ROOM, files, sum)?;
+    let log = read_log(alloc, word, name, FULL_ALLOWANCE, files, sum)?;
     net_text(alloc, word, log)
 }

@@ -21,13 +21,13 @@ pub const MAX_COMMANDS: usize = 1_048_576;
 
 /// How many bytes and commands are left for the logs that are still to be read.
 #[derive(Clone, Copy, Debug)]
-pub struct Room {
+pub struct Allowance {
     pub bytes: usize,
     pub commands: usize,
 }
 
 /// What is left before the first log.
-pub const WHOLE_ROOM: Room = Room {
+pub const FULL_ALLOWANCE: Allowance = Allowance {
     bytes: FILE_LIMIT,
     commands: MAX_COMMANDS,
 };
@@ -152,20 +152,20 @@ fn end_log<T: TakesCommands + Drop>(
 }
 
 /// Reads the log in the file `name`, which the word at the place `word` names, piece by piece, and hands its commands to
-/// `into` as they come. `room` is what is left for it.
+/// `into` as they come. `allowance` is what is left for it.
 ///
 /// After a fault of the text the file is read on to its end or its limit: a failed reading and the size come first.
 pub fn read_log<F: Files, T: TakesCommands + Drop>(
     alloc: Global,
     word: usize,
     name: &str,
-    room: Room,
+    allowance: Allowance,
     files: &mut F,
     into: T,
 ) -> Result<LogFile<T>, Refusal>
     requires nothing { T.stands into [] }
-    requires room { room.bytes ≤ FILE_LIMIT }
-    ensures { Answers (IsLogFile T.stands) (IsLog room word name.now) (room.bytes ∷ []) (F.files files.old) (F.files files.new) result }
+    requires allowance { allowance.bytes ≤ FILE_LIMIT }
+    ensures { Answers (IsLogFile T.stands) (IsLog allowance word name.now) (allowance.bytes ∷ []) (F.files files.old) (F.files files.new) result }
 {
     if let Err(fault) = files.open(name) {
         return Err(call_refusal(word, fault));
@@ -176,13 +176,13 @@ pub fn read_log<F: Files, T: TakesCommands + Drop>(
     };
     let mut buffer = [0u8; PIECE];
     let mut size = 0;
-    'pieces: while size <= room.bytes {
-        let count = match read_piece(files, &mut buffer, size, room.bytes) {
+    'pieces: while size <= allowance.bytes {
+        let count = match read_piece(files, &mut buffer, size, allowance.bytes) {
             Ok(count) => count,
             Err(fault) => return Err(call_refusal(word, fault)),
         };
         if count == 0 {
-            return end_log(intake, word, size, room.commands);
+            return end_log(intake, word, size, allowance.commands);
         }
         intake.feed(&buffer[..count])?;
         size += count;

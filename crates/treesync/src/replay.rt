@@ -13,7 +13,7 @@ ghost use Rattle.apply_model.specs.Entries.{rows_of};
 ghost use Rattle.log_text.specs.Snapshots.{IsRowOfVersion, snapshot_text};
 
 use crate::input::{FILE_LIMIT, snapshot_file};
-use crate::logs::{LogFile, WHOLE_ROOM, read_log};
+use crate::logs::{LogFile, FULL_ALLOWANCE, read_log};
 use crate::{Finding, Refusal};
 use apply_model::{RunBreak, TreeMap, replay_owned};
 use log_text::print_snapshot;
@@ -87,6 +87,6 @@ pub fn replay<F: Files>(
 {
     let snapshot = snapshot_file(alloc, snap_word, snap, files)?;
     let commands = Vec::new(alloc);
-    let read = read_log(alloc, log_word, log, WHOLE_ROOM, files, commands)?;
+    let read = read_log(alloc, log_word, log, FULL_ALLOWANCE, files, commands)?;
     text_after(alloc, log_word, snapshot, read)
 }

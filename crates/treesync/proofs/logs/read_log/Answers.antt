@@ -12,13 +12,13 @@ pub returns-then-count-eq0 : goal.returns-then-count-eq0
 returns-then-count-eq0 g c =
     let r = c.pieces.invariant.read in
     let some : 0 < length c.read_piece.new.buffer = first_of (search rules, omega (arith, c.in-Ok.ensures.length)) in
-    let within : length r.0 ≤ c.args.room.bytes = omega (arith, r.1, c.pieces-test.true) in
-    then_judged AreBytes (IsLogFile g.T.TakesCommands.stands) (IsFile c.args.room.bytes c.args.word c.args.name.now)
-    (λ bytes answer. answer ≡ log_answer c.args.room.commands c.args.word (length bytes) (log_of (parts 10 bytes)))
-    (c.args.room.bytes ∷ []) (g.F.Files.files c.args.files.now) (g.F.Files.files c.read_piece.new.files) r.0 c.end_log.result
-    (all_read c.args.room.bytes c.args.word c.args.name.now r.0 c.read_piece.new.buffer c.in-Ok.count (g.F.Files.files c.args.files.now) (g.F.Files.files c.pieces.files) (g.F.Files.files c.read_piece.new.files)
+    let within : length r.0 ≤ c.args.allowance.bytes = omega (arith, r.1, c.pieces-test.true) in
+    then_judged AreBytes (IsLogFile g.T.TakesCommands.stands) (IsFile c.args.allowance.bytes c.args.word c.args.name.now)
+    (λ bytes answer. answer ≡ log_answer c.args.allowance.commands c.args.word (length bytes) (log_of (parts 10 bytes)))
+    (c.args.allowance.bytes ∷ []) (g.F.Files.files c.args.files.now) (g.F.Files.files c.read_piece.new.files) r.0 c.end_log.result
+    (all_read c.args.allowance.bytes c.args.word c.args.name.now r.0 c.read_piece.new.buffer c.in-Ok.count (g.F.Files.files c.args.files.now) (g.F.Files.files c.pieces.files) (g.F.Files.files c.read_piece.new.files)
     c.if-count-eq0.true some within r.3 c.in-Ok.ensures.faults c.in-Ok.ensures.contents)
-    (λ a e. judged_same g.T.TakesCommands.stands c.args.word c.args.room.commands c.pieces.size r.0 a c.end_log.result e r.1 (c.end_log.ensures r.0 r.2 r.1))
+    (λ a e. judged_same g.T.TakesCommands.stands c.args.word c.args.allowance.commands c.pieces.size r.0 a c.end_log.result e r.1 (c.end_log.ensures r.0 r.2 r.1))
 
 pub pieces-preserved : goal.pieces-preserved
 pieces-preserved g c =
