@@ -91,7 +91,7 @@ pub refused_means : (words : Option Job) (before now : FilesState) (found : Answ
 refused_means None before now found status a b f p e = refl
 refused_means (Some job) before now found status a b f p e = absurd (not_two found status a b f.job p e)
 
--- and words that are no job have status 2 or 16
+-- and invalid arguments have status 2 or 16
 none_status : (found : Answer) (status : ℕ) (a b : SinkState) → (found ≡ Err InvalidArguments) ⊎ (found ≡ Err OutOfMemory) → Prints (seen_text found) status a b → (status ≡ 2) ⊎ (status ≡ 16)
 none_status found status a b (inl e) p = inl ((subst (λ f. Prints (seen_text f) status a b) e p).0)
 none_status found status a b (inr e) p = inr ((subst (λ f. Prints (seen_text f) status a b) e p).0)
