@@ -89,7 +89,7 @@ fn compare_logs(alloc: Global, sums: Vec<LogSum>) -> Result<(Vec<Claim>, Vec<Gro
 
 /// Joins logs by their sums, of whose paths and values the joint is made. It has a joint exactly where some tree takes
 /// all the logs, and `NoCommonTree` comes exactly where none does: it names the least pair of logs that disagree,
-/// counted from 1, and their first node of disagreement in path order. Either may yield to out of memory.
+/// counted from 1, and their first node of disagreement in path order. Memory may run out in place of either.
 pub fn join(alloc: Global, sums: Vec<LogSum>) -> Result<Joint, JoinFault>
     requires { length sums.items ≤ MAX_LOGS }
     ensures joined { (logs : List (List Change)) → EachStandsFor sums.items logs → IfOk result (λ joint. StandsForAll joint logs) }
