@@ -1,0 +1,17 @@
+pub mod Exactness
+pub mod FirstMergers
+pub mod Greedy
+pub mod MergerLaws
+pub mod Preferring
+pub mod PrerequisiteLaws
+pub mod Scanning
+pub mod Spreading
+pub mod Steering
+pub mod Turning
+pub mod Steered
+pub mod ClashTests
+pub mod ParentPlaces
+pub mod Climbing
+pub mod Marking
+pub mod Scans
+pub mod Merged

@@ -1,0 +1,6 @@
+pub mod Conflicts
+pub mod FirstMergers
+pub mod Steering
+pub mod Clashes
+pub mod Marks
+pub mod Taken

@@ -1,0 +1,11 @@
+pub mod RankingLaws
+pub mod Staging
+pub mod Places
+pub mod Named
+pub mod Ends
+pub mod Numbering
+pub mod Numbered
+pub mod Ordering
+pub mod Within
+pub mod Rankings
+pub mod CallerLemmas

@@ -1,0 +1,5 @@
+pub mod Ranking
+pub mod Picks
+pub mod Stages
+pub mod Numbers
+pub mod Orders

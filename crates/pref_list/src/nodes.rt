@@ -1,0 +1,66 @@
+//! The nodes of the net commands of joined logs.
+
+ghost use Rattle.std.specs.Prelude.{◌≡◌, ◌<◌, ◌≤◌, true, length, slice_get, Some, IfOk, ℕ};
+ghost use Rattle.sync_command.specs.Changes.{is_canonical};
+ghost use Rattle.refluent.specs.Joints.{path_at, is_ascending};
+ghost use Rattle.pref_list.specs.Ranking.{set_of};
+ghost use Rattle.pref_list.specs.Numbers.{IsNodeAt, AreNamed, AreNodesOf, AreAllNodesOf};
+
+use refluent::Joint;
+use std::alloc::Global;
+use std::cmp::Ordering;
+use sync_command::Command;
+use sync_path::{NoMemory, Path};
+
+/// The place of a path that is one of the joint's nodes, by halving.
+pub fn place_of(joint: &Joint, path: &Path) -> usize
+    requires rising { is_ascending joint.now.nodes ≡ true }
+    requires there { (place : ℕ) × IsNodeAt joint.now.nodes place path.now }
+    ensures { IsNodeAt joint.now.nodes result path.now }
+{
+    let mut low = 0;
+    let mut high = joint.nodes();
+    'halving: while low < high {
+        let middle = low + (high - low) / 2;
+        match joint.node(middle).cmp(path) {
+            Ordering::Equal => return middle,
+            Ordering::Less => low = middle + 1,
+            Ordering::Greater => high = middle,
+        }
+    }
+    low
+}
+
+/// The places of the nodes that the commands name.
+fn places_of(alloc: Global, joint: &Joint, commands: &[Command]) -> Result<Vec<usize>, NoMemory>
+    requires rising { is_ascending joint.now.nodes ≡ true }
+    requires named { AreNamed joint.now.nodes commands.now }
+    ensures { IfOk result (λ places. AreNodesOf joint.now.nodes commands.now places.items) }
+{
+    let mut places = Vec::with_capacity(alloc, commands.len())?;
+    'commands: for command in commands {
+        places.push(place_of(joint, command.path()))?;
+    }
+    Ok(places)
+}
+
+/// The net commands of a log, in the admissible order; logs count from 1.
+pub(crate) fn commands_of(joint: &Joint, log: u32) -> &[Command]
+    requires { (0 < log) × (log ≤ length joint.now.sets) }
+    ensures commands { result.now ≡ set_of joint.now.sets log }
+    ensures order { is_canonical result.now ≡ true }
+{
+    joint.set(log).commands()
+}
+
+/// The places of the nodes that the net commands name, one list for each log.
+pub fn nodes_of(alloc: Global, joint: &Joint) -> Result<Vec<Vec<usize>>, NoMemory>
+    ensures { IfOk result (λ lists. AreAllNodesOf joint.now.nodes joint.now.sets lists.items) }
+{
+    let count = joint.logs();
+    let mut lists = Vec::with_capacity(alloc, count as usize)?;
+    'logs: for log in 0..count {
+        lists.push(places_of(alloc, joint, commands_of(joint, log + 1))?)?;
+    }
+    Ok(lists)
+}
