@@ -6,7 +6,7 @@ ghost use Rattle.treesync.specs.Canon.{IsCanon, IsNet};
 ghost use Rattle.treesync.specs.Logs.{IsLogFile, IsTotal, ReadLog};
 
 use crate::input::FILE_LIMIT;
-use crate::logs::{LogFile, Total, FULL_ALLOWANCE, read_log};
+use crate::logs::{FULL_ALLOWANCE, LogFile, Total, read_log};
 use crate::{Finding, Refusal};
 use canon_set::LogSum;
 use log_text::print_log;

@@ -13,7 +13,7 @@ ghost use Rattle.apply_model.specs.Entries.{rows_of};
 ghost use Rattle.log_text.specs.Snapshots.{IsRowOfVersion, snapshot_text};
 
 use crate::input::{FILE_LIMIT, snapshot_file};
-use crate::logs::{LogFile, FULL_ALLOWANCE, read_log};
+use crate::logs::{FULL_ALLOWANCE, LogFile, read_log};
 use crate::{Finding, Refusal};
 use apply_model::{RunBreak, TreeMap, replay_owned};
 use log_text::print_snapshot;
