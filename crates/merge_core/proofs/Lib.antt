@@ -9,7 +9,6 @@ pub mod Spreading
 pub mod Steering
 pub mod Turning
 pub mod Steered
-pub mod ClashTests
 pub mod ParentPlaces
 pub mod Climbing
 pub mod Marking

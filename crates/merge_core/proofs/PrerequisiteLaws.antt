@@ -6,9 +6,9 @@ use Rattle.sync_command.specs.Maps.{Store, at}
 use Rattle.refluent.specs.Sets.{IsSubset}
 use Rattle.refluent.specs.CommonTrees.{AllChange, IsCommonTree}
 use Rattle.refluent.specs.Drawn.{drawn_commands}
-use Rattle.merge_core.specs.Clashes.{HasNoClash}
+use Rattle.refluent.specs.Clashes.{HasNoClash}
 use Rattle.refluent.specs.Prerequisites.{HoldsPrerequisites}
-use Rattle.merge_core.proofs.ClashTests.{has_no_clash, leaves_no_child}
+use Rattle.refluent.proofs.CallerLemmas.{has_no_clash, leaves_no_child}
 use Rattle.refluent.proofs.CallerLemmas.{common_holding, IsCommon, old_held, fits_from_parts, fits_leaves_no_child, fits_prerequisites}
 
 module _ (logs : List (List Change)) (change : AllChange logs) (m : Store) (common : IsCommonTree m logs) where

@@ -1,6 +1,5 @@
 pub mod Conflicts
 pub mod FirstMergers
 pub mod Steering
-pub mod Clashes
 pub mod Marks
 pub mod Taken

@@ -8,7 +8,7 @@ ghost use Rattle.sync_command.specs.Maps.{Store, at};
 ghost use Rattle.refluent.specs.Sets.{is_in, IsSubset, HaveSameCommands};
 ghost use Rattle.refluent.specs.CommonTrees.{AllChange, IsCommonTree};
 ghost use Rattle.refluent.specs.Drawn.{drawn_commands};
-ghost use Rattle.merge_core.specs.Clashes.{HasNoClash};
+ghost use Rattle.refluent.specs.Clashes.{HasNoClash};
 ghost use Rattle.pref_list.specs.declared.rules.Rule.{Rule};
 ghost use Rattle.pref_list.specs.Ranking.{ranking};
 ghost use Rattle.merge_core.specs.Steering.{steering_rules};

@@ -4,5 +4,6 @@ pub use Rattle.refluent.proofs.Prerequisites.{LeavesNoChild, after_some, after_n
 pub use Rattle.refluent.proofs.Growing.{IsWithin, can_grow, grow_law, merger_whole}
 pub use Rattle.refluent.proofs.Drawing.{IsCommon, IsDrawn, net_in, drawn_known, old_held, drawn_fits_each}
 pub use Rattle.refluent.proofs.CommonTrees.{common_holding, least_law, each_law}
+pub use Rattle.refluent.proofs.ClashTests.{one_from_no_clash, has_no_clash, leaves_no_child}
 -- what a joint says of the logs that it stands for
 pub use Rattle.refluent.proofs.JointLemmas.{drawn_is, IsNetSet, set_is, set_fits, value_at_row, row_with_value, node_is, has_node, concerns_named}

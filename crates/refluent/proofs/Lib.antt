@@ -2,6 +2,7 @@ pub mod Agreeing
 pub mod Assembling
 pub mod CallerLemmas
 pub mod Climbing
+pub mod ClashTests
 pub mod CommonTrees
 pub mod Comparing
 pub mod Disagreeing

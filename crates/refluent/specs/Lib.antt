@@ -3,6 +3,7 @@ pub mod Needs
 pub mod CommonTrees
 pub mod FirstDisagreements
 pub mod Drawn
+pub mod Clashes
 pub mod Mergers
 pub mod Prerequisites
 pub mod Joints

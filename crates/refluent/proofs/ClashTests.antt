@@ -8,9 +8,10 @@ use Rattle.sync_command.specs.Trees.{command_at, one_each}
 use Rattle.canon_set.specs.Entries.{has_parent, is_child}
 use Rattle.sync_path.proofs.CallerLemmas.{both, same_path_is, same_path_at, same_path_refl}
 use Rattle.sync_command.proofs.CallerLemmas.{command_at-node}
-use Rattle.refluent.proofs.CallerLemmas.{LeavesNoChild, at_from_in, in_from_at, same_change_at, same_change_is, same_change_refl}
+use Rattle.refluent.proofs.Prerequisites.{LeavesNoChild}
+use Rattle.refluent.proofs.Sets.{at_from_in, in_from_at, same_change_at, same_change_is, same_change_refl}
 use Rattle.refluent.specs.Sets.{is_in, all_differ}
-use Rattle.merge_core.specs.Clashes.{clashes_below, HasNoClash}
+use Rattle.refluent.specs.Clashes.{clashes_below, HasNoClash}
 
 neither : (a b c : Bool) → (a || (b || c)) ≡ false → (a ≡ false) × (b ≡ false) × (c ≡ false)
 neither a b c e = grind arith
