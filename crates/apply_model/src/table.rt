@@ -32,9 +32,13 @@ pub(crate) enum Step {
 
 /// The node at the path has one child more. The one refusal is that no machine counts so far.
 fn add_child(nodes: &mut HashMap<Path, Entry>, above: &Path) -> Result<(), NoMemory>
-    ensures ok { OnOk result ((p : Node) → hash.get path_eq nodes.new p ≡ (if same_path p above.now then recounted true (hash.get path_eq nodes.old p) else hash.get path_eq nodes.old p)) }
+    ensures ok { OnOk result ((p : Node) →
+        hash.get path_eq nodes.new p ≡ (if same_path p above.now
+        then recounted true (hash.get path_eq nodes.old p)
+        else hash.get path_eq nodes.old p)) }
     ensures room { spare nodes.new ≡ spare nodes.old }
-    ensures err { OnErr result ((p : Node) → hash.get path_eq nodes.new p ≡ hash.get path_eq nodes.old p) }
+    ensures err { OnErr result ((p : Node) →
+        hash.get path_eq nodes.new p ≡ hash.get path_eq nodes.old p) }
 {
     if let Some(entry) = nodes.get_mut(above) {
         let Some(children) = entry.children.checked_add(1) else {
@@ -47,7 +51,9 @@ fn add_child(nodes: &mut HashMap<Path, Entry>, above: &Path) -> Result<(), NoMem
 
 /// The node at the path has one child fewer.
 fn remove_child(nodes: &mut HashMap<Path, Entry>, above: &Path)
-    ensures { (p : Node) → hash.get path_eq nodes.new p ≡ (if same_path p above.now then recounted false (hash.get path_eq nodes.old p) else hash.get path_eq nodes.old p) }
+    ensures { (p : Node) → hash.get path_eq nodes.new p ≡ (if same_path p above.now
+        then recounted false (hash.get path_eq nodes.old p)
+        else hash.get path_eq nodes.old p) }
 {
     if let Some(entry) = nodes.get_mut(above) {
         entry.children = entry.children.saturating_sub(1);
@@ -56,7 +62,9 @@ fn remove_child(nodes: &mut HashMap<Path, Entry>, above: &Path)
 
 /// Gives a node of the table another value; its count of children stays.
 fn replace(nodes: &mut HashMap<Path, Entry>, path: &Path, value: Value)
-    ensures { (p : Node) → hash.get path_eq nodes.new p ≡ (if same_path p path.now then revalued value (hash.get path_eq nodes.old p) else hash.get path_eq nodes.old p) }
+    ensures { (p : Node) → hash.get path_eq nodes.new p ≡ (if same_path p path.now
+        then revalued value (hash.get path_eq nodes.old p)
+        else hash.get path_eq nodes.old p) }
 {
     if let Some(entry) = nodes.get_mut(path) {
         entry.value = value;
@@ -72,8 +80,12 @@ fn fill(
     value: Value,
 ) -> Result<(), NoMemory>
     requires { option_copied above ≡ parent path }
-    ensures ok { OnOk result ((p : Node) → hash.get path_eq nodes.new p ≡ (if same_path p path then entry_with value else with_child true path (hash.get path_eq nodes.old) p)) }
-    ensures err { OnErr result ((p : Node) → hash.get path_eq nodes.new p ≡ hash.get path_eq nodes.old p) }
+    ensures ok { OnOk result ((p : Node) →
+        hash.get path_eq nodes.new p ≡ (if same_path p path
+        then entry_with value
+        else with_child true path (hash.get path_eq nodes.old) p)) }
+    ensures err { OnErr result ((p : Node) →
+        hash.get path_eq nodes.new p ≡ hash.get path_eq nodes.old p) }
 {
     nodes.reserve(1)?;
     if let Some(above) = above {
@@ -88,7 +100,9 @@ fn fill(
 /// Gives a node of the table its last value, the empty one: its parent has one child fewer.
 fn clear(nodes: &mut HashMap<Path, Entry>, above: Option<&Path>, path: &Path, value: Value)
     requires { option_copied above ≡ parent path.now }
-    ensures { (p : Node) → hash.get path_eq nodes.new p ≡ (if same_path p path.now then revalued value (hash.get path_eq nodes.old p) else with_child false path.now (hash.get path_eq nodes.old) p) }
+    ensures { (p : Node) → hash.get path_eq nodes.new p ≡ (if same_path p path.now
+        then revalued value (hash.get path_eq nodes.old p)
+        else with_child false path.now (hash.get path_eq nodes.old) p) }
 {
     replace(nodes, path, value);
     if let Some(above) = above {
@@ -104,8 +118,10 @@ pub(crate) fn change(
     value: Value,
 ) -> Result<(), NoMemory>
     requires { NamesParent step path }
-    ensures ok { OnOk result ((p : Node) → hash.get path_eq nodes.new p ≡ after_step step path value (hash.get path_eq nodes.old) p) }
-    ensures err { OnErr result ((p : Node) → hash.get path_eq nodes.new p ≡ hash.get path_eq nodes.old p) }
+    ensures ok { OnOk result ((p : Node) →
+        hash.get path_eq nodes.new p ≡ after_step step path value (hash.get path_eq nodes.old) p) }
+    ensures err { OnErr result ((p : Node) →
+        hash.get path_eq nodes.new p ≡ hash.get path_eq nodes.old p) }
 {
     match step {
         Step::Make(above) => fill(nodes, above.as_ref(), path, value)?,

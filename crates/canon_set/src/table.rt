@@ -106,10 +106,13 @@ impl Table {
     fn count(&mut self, path: &Path, added: usize, taken: usize) -> bool
         requires few { children_in (entry_at self.old path.now) + added < 2 ^ 64 }
         requires some { taken ≤ children_in (entry_at self.old path.now) + added }
-        ensures known { OnTrue result (Counts (entry_at self.old) (entry_at self.new) path.now added taken) }
-        ensures unknown { OnFalse result ((entry_at self.old path.now ≡ None) × (self.new ≡ self.old)) }
+        ensures known { OnTrue result (Counts (entry_at self.old) (entry_at self.new) path.now added
+            taken) }
+        ensures unknown { OnFalse result ((entry_at self.old path.now ≡ None) ×
+            (self.new ≡ self.old)) }
         ensures touched { touches_in self.new ≡ touches_in self.old }
-        ensures room { (spare self.new.touched ≡ spare self.old.touched) × (spare self.new.above ≡ spare self.old.above) }
+        ensures room { (spare self.new.touched ≡ spare self.old.touched) ×
+            (spare self.new.above ≡ spare self.old.above) }
     {
         if let Some(place) = self.touched.get_index_of(path) {
             let (_, touched) = self.touched.pair_mut(place);
@@ -146,7 +149,8 @@ impl Table {
         requires few { (q : Node) → children_in (entry_at self.old q) + 1 < 2 ^ 64 }
         ensures ok { OnOk result (Raises (entry_at self.old) (entry_at self.new) way.old is_full) }
         ensures touched { touches_in self.new ≡ touches_in self.old }
-        ensures room { OnOk result ((spare self.new.touched ≡ spare self.old.touched) × (spare self.old.above ≤ spare self.new.above + length way.old)) }
+        ensures room { OnOk result ((spare self.new.touched ≡ spare self.old.touched) ×
+            (spare self.old.above ≤ spare self.new.above + length way.old)) }
         ensures err { OnErr result ((p : Node) → entry_at self.new p ≡ entry_at self.old p) }
     {
         if !way.pop() {
@@ -168,10 +172,12 @@ impl Table {
     pub(crate) fn recount(&mut self, way: &mut Path, was_full: bool, is_full: bool)
         requires known { is_some (entry_at self.old way.old) ≡ true }
         requires few { (q : Node) → children_in (entry_at self.old q) + 1 < 2 ^ 64 }
-        requires counted { (q : Node) → parent way.old ≡ Some q → was_full ≡ true → 0 < children_in (entry_at self.old q) }
+        requires counted { (q : Node) → parent way.old ≡ Some q → was_full ≡ true →
+            0 < children_in (entry_at self.old q) }
         ensures ok { Recounts (entry_at self.old) (entry_at self.new) way.old was_full is_full }
         ensures touched { touches_in self.new ≡ touches_in self.old }
-        ensures room { (spare self.new.touched ≡ spare self.old.touched) × (spare self.new.above ≡ spare self.old.above) }
+        ensures room { (spare self.new.touched ≡ spare self.old.touched) ×
+            (spare self.new.above ≡ spare self.old.above) }
     {
         if was_full == is_full {
             return;
@@ -187,7 +193,9 @@ impl Table {
         requires untouched { place_of (touches_in self.old) command.node ≡ None }
         requires room { 0 < spare self.old.touched }
         ensures touched { touches_in self.new ≡ touches_in self.old ++ first_touch_of command ∷ [] }
-        ensures entries { (p : Node) → entry_at self.new p ≡ cond (is_eq (path_cmp command.node p)) (Some (record { place = Some (length (touches_in self.old)); children = children })) (entry_at self.old p) }
+        ensures entries { (p : Node) → entry_at self.new p ≡ cond (is_eq (path_cmp command.node p))
+            (Some (record { place = Some (length (touches_in self.old)); children = children }))
+            (entry_at self.old p) }
     {
         let (path, first, last) = command.into_parts();
         let touched = Touched {
@@ -214,8 +222,11 @@ impl Table {
         requires unknown { entry_at self.old command.node ≡ None }
         requires closed { IsClosed (entry_at self.old) }
         requires few { (q : Node) → children_in (entry_at self.old q) + 1 < 2 ^ 64 }
-        ensures touched { OnOk result (touches_in self.new ≡ touches_in self.old ++ first_touch_of command ∷ []) }
-        ensures ok { OnOk result (Enters (entry_at self.old) (entry_at self.new) command.node (record { place = Some (length (touches_in self.old)); children = 0 }) (not (is_empty command.new))) }
+        ensures touched { OnOk result (touches_in self.new ≡ touches_in self.old ++ first_touch_of
+            command ∷ []) }
+        ensures ok { OnOk result (Enters (entry_at self.old) (entry_at self.new) command.node
+            (record { place = Some (length (touches_in self.old)); children = 0 })
+            (not (is_empty command.new))) }
         ensures err { OnErr result (IsSame self.old self.new) }
     {
         let is_full = !command.new_value().is_empty();
@@ -233,9 +244,12 @@ impl Table {
         requires known { is_some (entry_at self.old command.node) ≡ true }
         requires untouched { place_of (touches_in self.old) command.node ≡ None }
         requires few { (q : Node) → children_in (entry_at self.old q) + 1 < 2 ^ 64 }
-        requires counted { (q : Node) → parent command.node ≡ Some q → 0 < children_in (entry_at self.old q) }
-        ensures touched { OnOk result (touches_in self.new ≡ touches_in self.old ++ first_touch_of command ∷ []) }
-        ensures ok { OnOk result (Lifts (entry_at self.old) (entry_at self.new) command.node (length (touches_in self.old)) (not (is_empty command.new))) }
+        requires counted { (q : Node) → parent command.node ≡ Some q →
+            0 < children_in (entry_at self.old q) }
+        ensures touched { OnOk result (touches_in self.new ≡ touches_in self.old ++ first_touch_of
+            command ∷ []) }
+        ensures ok { OnOk result (Lifts (entry_at self.old) (entry_at self.new) command.node
+            (length (touches_in self.old)) (not (is_empty command.new))) }
         ensures err { OnErr result (IsSame self.old self.new) }
     {
         self.reserve(0)?;
@@ -252,9 +266,11 @@ impl Table {
         requires place { place_of (touches_in self.old) command.node ≡ Some place }
         requires known { is_some (entry_at self.old command.node) ≡ true }
         requires few { (q : Node) → children_in (entry_at self.old q) + 1 < 2 ^ 64 }
-        requires counted { (q : Node) → parent command.node ≡ Some q → not (is_empty command.old) ≡ true → 0 < children_in (entry_at self.old q) }
+        requires counted { (q : Node) → parent command.node ≡ Some q →
+            not (is_empty command.old) ≡ true → 0 < children_in (entry_at self.old q) }
         ensures touched { Renews (touches_in self.old) (touches_in self.new) place command.new }
-        ensures entries { Recounts (entry_at self.old) (entry_at self.new) command.node (not (is_empty command.old)) (not (is_empty command.new)) }
+        ensures entries { Recounts (entry_at self.old) (entry_at self.new) command.node
+            (not (is_empty command.old)) (not (is_empty command.new)) }
     {
         let was_full = !command.old().is_empty();
         let is_full = !command.new_value().is_empty();
@@ -277,7 +293,8 @@ impl Table {
     /// The changes from first values to last ones, where these differ, in order of first touch. They share the table's
     /// file contents.
     pub(crate) fn changes(&self, alloc: Global) -> Result<Vec<Command>, NoMemory>
-        ensures { IfOk result (λ commands. commands.items ≡ filter is_change (map change_of (touches_in self.now))) }
+        ensures { IfOk result (λ commands. commands.items ≡ filter is_change
+            (map change_of (touches_in self.now))) }
     {
         let mut commands = Vec::new(alloc);
         'touched: for (path, touched) in &self.touched {
@@ -292,7 +309,8 @@ impl Table {
 
     /// The same, made of the table's own paths and values.
     pub(crate) fn into_changes(self, alloc: Global) -> Result<Vec<Command>, NoMemory>
-        ensures { IfOk result (λ commands. commands.items ≡ filter is_change (map change_of (touches_in self))) }
+        ensures { IfOk result (λ commands. commands.items ≡ filter is_change
+            (map change_of (touches_in self))) }
     {
         let Table { touched, above } = self;
         // it need not stay while the commands are made
@@ -308,7 +326,8 @@ impl Table {
     /// paths and values.
     pub(crate) fn into_parts(self, alloc: Global) -> Result<(Vec<Touch>, Vec<Path>), NoMemory>
         ensures touched { IfOk result (λ parts. parts.0.items ≡ touches_in self) }
-        ensures above { IfOk result (λ parts. parts.1.items ≡ filter (is_untouched self) (keys self.above)) }
+        ensures above { IfOk result (λ parts. parts.1.items ≡ filter (is_untouched self)
+            (keys self.above)) }
     {
         let Table { touched, above } = self;
         let mut paths = Vec::with_capacity(alloc, above.len())?;
@@ -337,7 +356,8 @@ fn push_change(
     first: Value,
     last: Value,
 ) -> Result<(), NoMemory>
-    ensures { OnOk result (commands.new.items ≡ commands.old.items ++ filter is_change (record { node = path; old = first; new = last } ∷ [])) }
+    ensures { OnOk result (commands.new.items ≡ commands.old.items ++ filter is_change
+        (record { node = path; old = first; new = last } ∷ [])) }
 {
     match Command::new(path, first, last) {
         Ok(command) => commands.push(command)?,

@@ -35,7 +35,8 @@ fn put_first(
 )
     requires up { up < length children.old.items }
     requires place { place < length siblings.old.items }
-    ensures siblings { siblings.new.items ≡ slice_set siblings.old.items place (slice_index_or children.old.items up None) }
+    ensures siblings { siblings.new.items ≡ slice_set siblings.old.items place
+        (slice_index_or children.old.items up None) }
     ensures children { children.new.items ≡ slice_set children.old.items up (Some place) }
 {
     siblings[place] = children[up];

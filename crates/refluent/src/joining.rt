@@ -43,7 +43,8 @@ fn compare_claims(alloc: Global, claims: Vec<Claim>, count: usize) -> Result<Com
     requires logs { AreOfLogs claims.items count }
     requires ordered { AreOrdered claims.items }
     ensures range { IfOk result (IsComparisonOf count) }
-    ensures comparison { (sums : List Sum) (logs : List (List Change)) → EachStandsFor sums logs → length logs ≡ count →
+    ensures comparison { (sums : List Sum) (logs : List (List Change)) → EachStandsFor sums logs →
+        length logs ≡ count →
         AreClaims claims.items logs → IfOk result (IsComparison logs) }
 {
     let groups = groups_of(alloc, claims.as_slice())?;
@@ -68,7 +69,8 @@ fn compare_logs(alloc: Global, sums: Vec<LogSum>) -> Result<(Vec<Claim>, Vec<Gro
         IfOk result (λ r. IsAgreed logs r.0.items r.1.items × HasCommonTree logs) }
     ensures table { IfOk result (λ r. AreOrdered r.0.items × IsTable r.0.items r.1.items) }
     ensures sums { OnOk result (AreSums sums.items) }
-    ensures refused { (logs : List (List Change)) (first second : ℕ) (path : Node) → EachStandsFor sums.items logs →
+    ensures refused { (logs : List (List Change)) (first second : ℕ) (path : Node) →
+        EachStandsFor sums.items logs →
         result ≡ Err (NoCommonTree first second path) → IsRefused logs first second path }
 {
     let count = sums.len();
@@ -92,8 +94,10 @@ fn compare_logs(alloc: Global, sums: Vec<LogSum>) -> Result<(Vec<Claim>, Vec<Gro
 /// counted from 1, and their first node of disagreement in path order. Memory may run out in place of either.
 pub fn join(alloc: Global, sums: Vec<LogSum>) -> Result<Joint, JoinFault>
     requires { length sums.items ≤ MAX_LOGS }
-    ensures joined { (logs : List (List Change)) → EachStandsFor sums.items logs → IfOk result (λ joint. StandsForAll joint logs) }
-    ensures refused { (logs : List (List Change)) (first second : ℕ) (path : Node) → EachStandsFor sums.items logs →
+    ensures joined { (logs : List (List Change)) → EachStandsFor sums.items logs →
+        IfOk result (λ joint. StandsForAll joint logs) }
+    ensures refused { (logs : List (List Change)) (first second : ℕ) (path : Node) →
+        EachStandsFor sums.items logs →
         result ≡ Err (NoCommonTree first second path) → IsRefused logs first second path }
 {
     let count = sums.len();

@@ -129,7 +129,8 @@ impl Joint {
     /// The place of a node's parent, which a root has not. Takes no memory.
     pub fn parent(&self, place: usize) -> Option<usize>
         requires { place < length self.now.nodes }
-        ensures { (p : Node) → path_at self.now.nodes place ≡ Some p → IsParentPlace self.now.nodes (parent p) result }
+        ensures { (p : Node) → path_at self.now.nodes place ≡ Some p →
+            IsParentPlace self.now.nodes (parent p) result }
     {
         self.links[place].parent
     }
@@ -145,7 +146,8 @@ impl Joint {
     /// The place of a node's first child, in path order. Takes no memory.
     pub fn first_child(&self, place: usize) -> Option<usize>
         requires { place < length self.now.nodes }
-        ensures { (p : Node) → path_at self.now.nodes place ≡ Some p → IsFirstChild self.now.nodes (Some p) 0 result }
+        ensures { (p : Node) → path_at self.now.nodes place ≡ Some p →
+            IsFirstChild self.now.nodes (Some p) 0 result }
     {
         self.families.children[place]
     }
@@ -162,7 +164,8 @@ impl Joint {
     /// The net commands that name a node, by log. Takes no memory.
     pub fn commands(&self, place: usize) -> &[Pick]
         requires { place < length self.now.nodes }
-        ensures { (p : Node) → path_at self.now.nodes place ≡ Some p → result.now ≡ net_commands self.now.sets p }
+        ensures { (p : Node) → path_at self.now.nodes place ≡ Some p →
+            result.now ≡ net_commands self.now.sets p }
     {
         let links = self.links.as_slice();
         let picks = self.picks.as_slice();

@@ -24,7 +24,8 @@ pub fn incompatible_needs_share_no_value()
 
 /// Logs that are taken, each by some tree, have a common tree exactly where no two of them disagree at a node.
 pub fn logs_that_agree_have_a_common_tree()
-    ensures { (logs : List (List Change)) → AllChange logs → AreTaken logs → (HasCommonTree logs ↔ Agree logs) }
+    ensures { (logs : List (List Change)) → AllChange logs → AreTaken logs →
+        (HasCommonTree logs ↔ Agree logs) }
 {}
 
 /// Where logs have a common tree, the least common tree is one.

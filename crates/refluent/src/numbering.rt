@@ -75,7 +75,8 @@ fn is_repeated(claim: &Claim, earlier: &[Claim]) -> bool
 fn count_one(counts: &mut Vec<usize>, log: usize)
     requires log { log < length counts.old.items }
     requires room { slice_index counts.old.items log + 1 < 2 ^ 64 }
-    ensures { counts.new.items ≡ slice_set counts.old.items log (slice_index counts.old.items log + 1) }
+    ensures { counts.new.items ≡ slice_set counts.old.items log
+        (slice_index counts.old.items log + 1) }
 {
     let count = counts[log];
     counts[log] = count + 1;
@@ -85,7 +86,8 @@ fn count_one(counts: &mut Vec<usize>, log: usize)
 fn count_downs(alloc: Global, claims: &[Claim], count: usize) -> Result<Vec<usize>, NoMemory>
     requires { AreOfLogs claims.now count }
     ensures many { IfOk result (λ downs. length downs.items ≡ count) }
-    ensures each { IfOk result (λ downs. (l m : ℕ) → slice_get downs.items l ≡ Some m → m ≡ downs_in (changes_of l claims.now)) }
+    ensures each { IfOk result (λ downs. (l m : ℕ) → slice_get downs.items l ≡ Some m →
+        m ≡ downs_in (changes_of l claims.now)) }
 {
     let mut downs: Vec<usize> = vec![in alloc; 0; count]?;
     'claims: for claim in claims {

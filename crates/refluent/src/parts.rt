@@ -87,7 +87,8 @@ fn command_of(claim: Claim) -> Option<Command>
 /// Room for the commands of each log.
 fn empty_lists(alloc: Global, count: usize) -> Result<Vec<Vec<Command>>, NoMemory>
     ensures many { IfOk result (λ lists. length lists.items ≡ count) }
-    ensures none { IfOk result (λ lists. (l : ℕ) (cs : Vec Change Global) → slice_get lists.items l ≡ Some cs → cs.items ≡ []) }
+    ensures none { IfOk result (λ lists. (l : ℕ) (cs : Vec Change Global) →
+        slice_get lists.items l ≡ Some cs → cs.items ≡ []) }
 {
     let mut lists = Vec::with_capacity(alloc, count)?;
     'logs: for _log in 0..count {
@@ -109,7 +110,8 @@ fn put(lists: &mut Vec<Vec<Command>>, log: usize, command: Command) -> Result<()
 fn lists_of(alloc: Global, claims: Vec<Claim>, count: usize) -> Result<Vec<Vec<Command>>, NoMemory>
     requires { AreOfLogs claims.items count }
     ensures many { IfOk result (λ lists. length lists.items ≡ count) }
-    ensures each { IfOk result (λ lists. (l : ℕ) (cs : Vec Change Global) → slice_get lists.items l ≡ Some cs →
+    ensures each { IfOk result (λ lists. (l : ℕ) (cs : Vec Change Global) →
+        slice_get lists.items l ≡ Some cs →
         cs.items ≡ changes_of l claims.items) }
 {
     let mut lists = empty_lists(alloc, count)?;

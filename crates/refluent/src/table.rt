@@ -71,7 +71,8 @@ fn find_parent(claims: &[Claim], groups: &[Group], start: usize) -> Option<usize
 fn is_last(claims: &[Claim], place: usize) -> bool
     requires { place < length claims.now }
     ensures end { place + 1 ≡ length claims.now → result ≡ true }
-    ensures next { (c d : Claim) → slice_get claims.now place ≡ Some c → slice_get claims.now (place + 1) ≡ Some d →
+    ensures next { (c d : Claim) → slice_get claims.now place ≡ Some c →
+        slice_get claims.now (place + 1) ≡ Some d →
         IsTrue result ↔ (d.path ≢ c.path) }
 {
     place + 1 == claims.len() || !claims[place + 1].path.same(&claims[place].path)
@@ -162,7 +163,8 @@ fn demand<'a>(claims: &'a [Claim], groups: &[Group], place: usize, demands: &mut
     requires place { place < length groups.now }
     requires table { IsTable claims.now groups.now }
     requires logs { AreOfLogs claims.now (length demands.old) }
-    ensures { (logs : List (List Change)) (s : Group) → AreClaims claims.now logs → slice_get groups.now place ≡ Some s →
+    ensures { (logs : List (List Change)) (s : Group) → AreClaims claims.now logs →
+        slice_get groups.now place ≡ Some s →
         AreFor logs (node_of claims.now s) demands.new }
 {
     clear(demands);

@@ -29,7 +29,8 @@ pub(crate) fn counted(calls: &mut u64, listed: &[u64]) -> bool
 pub(crate) fn place_of(entries: &[Entry], name: &str) -> Option<usize>
     ensures bound { IfSome result (λ place. place < length entries.now) }
     ensures first { IfSome result (IsPlaceOf name.now entries.now) }
-    ensures held { IfSome result (λ place. held_in entries.now name.now ≡ Some (entry_bytes entries.now place)) }
+    ensures held { IfSome result (λ place. held_in entries.now name.now ≡ Some
+        (entry_bytes entries.now place)) }
     ensures none { IfNone result (held_in entries.now name.now ≡ None) }
 {
     let mut place = 0;
@@ -51,7 +52,8 @@ pub(crate) fn put(
     bytes: Vec<u8>,
 ) -> Result<(), NoMemory>
     ensures put { OnOk result (held_in entries.new.items name.now ≡ Some bytes.items) }
-    ensures others { (other : List ℕ) → other ≢ name.now → held_in entries.new.items other ≡ held_in entries.old.items other }
+    ensures others { (other : List ℕ) → other ≢ name.now →
+        held_in entries.new.items other ≡ held_in entries.old.items other }
     ensures unchanged { OnErr result (entries.new.items ≡ entries.old.items) }
 {
     if let Some(place) = place_of(entries, name) {

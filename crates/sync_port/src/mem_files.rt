@@ -54,7 +54,8 @@ impl MemFiles {
     /// memory ran out all is as before.
     pub fn add(&mut self, name: &str, bytes: &[u8]) -> Result<(), NoMemory>
         ensures put { OnOk result (names_held self.new name.now ≡ Some bytes.now) }
-        ensures others { (other : List ℕ) → other ≢ name.now → names_held self.new other ≡ names_held self.old other }
+        ensures others { (other : List ℕ) → other ≢ name.now →
+            names_held self.new other ≡ names_held self.old other }
         ensures rest { OnOk result (bytes_to_come self.new ≡ []) }
         ensures unchanged { OnErr result (file_contents self.new ≡ file_contents self.old) }
         ensures fails { calls_that_fail self.new ≡ calls_that_fail self.old }
@@ -81,8 +82,14 @@ impl Files for MemFiles {
     fn open(&mut self, name: &str) -> Result<(), PortFault>
         ensures faults { OpenFaults name.now result (files_state self.old) (files_state self.new) }
         ensures contents { Opens name.now result (file_contents self.old) (file_contents self.new) }
-        ensures answer { result ≡ (if next_call_fails self.old || is_none (names_held self.old name.now) then Err PortFault.Failed else Ok tt) }
-        ensures counted { faults_counted self.new ≡ (if next_call_fails self.old && is_some (names_held self.old name.now) then next_number (faults_counted self.old) else faults_counted self.old) }
+        ensures answer { result ≡ (if next_call_fails self.old ||
+            is_none (names_held self.old name.now)
+            then Err PortFault.Failed
+            else Ok tt) }
+        ensures counted { faults_counted self.new ≡
+            (if next_call_fails self.old && is_some (names_held self.old name.now)
+            then next_number (faults_counted self.old)
+            else faults_counted self.old) }
         ensures calls { calls_made self.new ≡ next_number (calls_made self.old) }
         ensures fails { calls_that_fail self.new ≡ calls_that_fail self.old }
     {
@@ -105,9 +112,15 @@ impl Files for MemFiles {
     fn read(&mut self, piece: &mut [u8]) -> Result<usize, PortFault>
         ensures bound { IfOk result (λ count. count ≤ length piece.new) }
         ensures faults { ReadFaults result (files_state self.old) (files_state self.new) }
-        ensures contents { Reads piece.new result (file_contents self.old) (file_contents self.new) }
-        ensures answer { result ≡ (if next_call_fails self.old then Err PortFault.Failed else Ok (min (length (bytes_to_come self.old)) (length piece.old))) }
-        ensures counted { faults_counted self.new ≡ (if next_call_fails self.old then next_number (faults_counted self.old) else faults_counted self.old) }
+        ensures contents { Reads piece.new result (file_contents self.old)
+            (file_contents self.new) }
+        ensures answer { result ≡ (if next_call_fails self.old
+            then Err PortFault.Failed
+            else Ok (min (length (bytes_to_come self.old)) (length piece.old))) }
+        ensures counted { faults_counted self.new ≡
+            (if next_call_fails self.old
+            then next_number (faults_counted self.old)
+            else faults_counted self.old) }
         ensures calls { calls_made self.new ≡ next_number (calls_made self.old) }
         ensures fails { calls_that_fail self.new ≡ calls_that_fail self.old }
     {

@@ -58,10 +58,14 @@ impl Sink for MemSink {
     fn write(&mut self, piece: &[u8]) -> Result<usize, SinkFailed>
         ensures some { WritesSome piece.now result }
         ensures faults { SinkFaults result (sink_state self.old) (sink_state self.new) }
-        ensures contents { Writes piece.now result (sink_contents self.old) (sink_contents self.new) }
-        ensures failed { IsErr result ↔ ((0 < length piece.now) × (length (bytes_written self.old) ≡ capacity_of self.old)) }
-        ensures count { IfOk result (λ count. count ≡ min (capacity_of self.old - length (bytes_written self.old)) (length piece.now)) }
-        ensures counted { sink_faults self.new ≡ (if is_ok result then sink_faults self.old else next_number (sink_faults self.old)) }
+        ensures contents { Writes piece.now result (sink_contents self.old)
+            (sink_contents self.new) }
+        ensures failed { IsErr result ↔ ((0 < length piece.now) ×
+            (length (bytes_written self.old) ≡ capacity_of self.old)) }
+        ensures count { IfOk result (λ count. count ≡ min
+            (capacity_of self.old - length (bytes_written self.old)) (length piece.now)) }
+        ensures counted { sink_faults self.new ≡
+            (if is_ok result then sink_faults self.old else next_number (sink_faults self.old)) }
         ensures capacity { capacity_of self.new ≡ capacity_of self.old }
         ensures flush_fails { flushes_fail self.new ≡ flushes_fail self.old }
     {
@@ -78,7 +82,8 @@ impl Sink for MemSink {
         ensures faults { SinkFaults result (sink_state self.old) (sink_state self.new) }
         ensures contents { Flushes result (sink_contents self.old) (sink_contents self.new) }
         ensures failed { IsErr result ↔ IsTrue (flushes_fail self.old) }
-        ensures counted { sink_faults self.new ≡ (if is_ok result then sink_faults self.old else next_number (sink_faults self.old)) }
+        ensures counted { sink_faults self.new ≡
+            (if is_ok result then sink_faults self.old else next_number (sink_faults self.old)) }
         ensures capacity { capacity_of self.new ≡ capacity_of self.old }
         ensures flush_fails { flushes_fail self.new ≡ flushes_fail self.old }
     {

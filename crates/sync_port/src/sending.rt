@@ -29,7 +29,8 @@ pub fn send<O: Sink>(sink: &mut O, bytes: &[u8]) -> Result<(), SinkFailed>
 /// Appends the path's text to the sink, as `send` does its bytes. It takes no memory.
 pub fn send_path<O: Sink>(sink: &mut O, path: &Path) -> Result<(), SinkFailed>
     ensures faults { SinkFaults result (O.sink sink.old) (O.sink sink.new) }
-    ensures contents { IfKnown (O.sink sink.old) (O.sink sink.new) (Sends (path_text path.now) result) }
+    ensures contents { IfKnown (O.sink sink.old) (O.sink sink.new)
+        (Sends (path_text path.now) result) }
 {
     let mut gathered = ArrayString::new();
     let depth = path.depth();
@@ -48,7 +49,8 @@ fn gather_name<O: Sink>(
     name: &[u8],
 ) -> Result<(), SinkFailed>
     ensures faults { SinkFaults result (O.sink sink.old) (O.sink sink.new) }
-    ensures contents { IfKnown (O.sink sink.old) (O.sink sink.new) (Gathers gathered.old.bytes (escaped name.now) gathered.new.bytes result) }
+    ensures contents { IfKnown (O.sink sink.old) (O.sink sink.new)
+        (Gathers gathered.old.bytes (escaped name.now) gathered.new.bytes result) }
 {
     'pieces: for piece in escaped_pieces(name) {
         gather(sink, gathered, piece)?;
@@ -63,7 +65,8 @@ fn gather<O: Sink>(
     text: &str,
 ) -> Result<(), SinkFailed>
     ensures faults { SinkFaults result (O.sink sink.old) (O.sink sink.new) }
-    ensures contents { IfKnown (O.sink sink.old) (O.sink sink.new) (Gathers gathered.old.bytes text.now gathered.new.bytes result) }
+    ensures contents { IfKnown (O.sink sink.old) (O.sink sink.new)
+        (Gathers gathered.old.bytes text.now gathered.new.bytes result) }
 {
     if gathered.try_push_str(text).is_ok() {
         return Ok(());

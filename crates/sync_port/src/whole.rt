@@ -24,7 +24,8 @@ pub fn read_whole<F: Files>(
 ) -> Result<Vec<u8>, WholeFault>
     ensures faults { WholeFaults name.now result (F.files files.old) (F.files files.new) }
     ensures within { IfOk result (λ whole. vec_len whole ≤ limit) }
-    ensures contents { IfKnown (F.files files.old) (F.files files.new) (ReadsWhole name.now limit result) }
+    ensures contents { IfKnown (F.files files.old) (F.files files.new)
+        (ReadsWhole name.now limit result) }
 {
     files.open(name)?;
     let mut buffer = [0u8; PIECE];
