@@ -8,4 +8,7 @@ pub mod Numbered
 pub mod Ordering
 pub mod Within
 pub mod Rankings
+pub mod Spelling
+pub mod RuleLines
+pub mod PrefLaws
 pub mod CallerLemmas

@@ -3,3 +3,5 @@ pub mod Picks
 pub mod Stages
 pub mod Numbers
 pub mod Orders
+pub mod Prefs
+pub mod RuleLists

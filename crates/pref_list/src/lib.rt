@@ -1,18 +1,24 @@
-//! Preference rules, and the ranking of the drawn commands under them.
+//! Preference rules, their texts, and the ranking of the drawn commands under them.
 //!
 //! `specs/` holds the definitions, and `docs/MODEL.md` explains them in words.
 #![tactic(auto)]
 
 mod faults;
 pub mod laws;
+mod lines;
 mod nodes;
 mod numbers;
+mod prefs;
 mod ranking;
+mod rule_list;
 mod rules;
 mod stages;
+#[cfg(test)]
+mod tests;
 
 pub use self::faults::RankFault;
 pub use self::nodes::{nodes_of, place_of};
 pub use self::numbers::command_at;
+pub use self::prefs::{print_prefs, read_prefs};
 pub use self::ranking::{Ranking, rank};
-pub use self::rules::Rule;
+pub use self::rules::{MAX_WIDE, Rule};
