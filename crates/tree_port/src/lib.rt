@@ -1,0 +1,11 @@
+//! Live trees: what may be asked of a tree and done to it, trees in memory, and a tree over a folder.
+//!
+//! `docs/MODEL.md` says what a live tree, its conditions and its counts are. What a tree holds may be known, as of the
+//! ones in memory, or not, as of one over a folder. A caller cannot ask which.
+#![tactic(auto)]
+
+mod faults;
+mod tree;
+
+pub use self::faults::TreeFault;
+pub use self::tree::Tree;
