@@ -1,5 +1,5 @@
 -- A tree kept in a table: what the entries of its nodes say.
-use Rattle.std.specs.Prelude.{◌≡◌, ℕ, ◌+◌, ◌-◌, Bool, true, false, not, ◌&&◌, ◌||◌, List, [], ◌∷◌, length, Option, None, Some, if◌then◌else◌}
+use Rattle.std.specs.Prelude.{◌≡◌, ℕ, ◌+◌, ◌-◌, Bool, true, false, not, ◌&&◌, ◌||◌, List, [], ◌∷◌, length, Option, None, Some, if◌then◌else◌, is_none}
 use Rattle.std.specs.FinMap as map
 use Rattle.sync_path.specs.Paths.{Node, parent, same_path}
 use Rattle.sync_command.specs.Maps.{IsTreeMap, Store, at, store}
@@ -88,3 +88,19 @@ with_child more n entry q = if is_child n q then recounted more (entry q) else e
 abbrev pub any_dir_above : Node → List (Node × Entry) → Bool
 any_dir_above n [] = false
 any_dir_above n (e ∷ es) = (is_child n e.0 && is_dir e.1.value) || any_dir_above n es
+
+-- ---- children
+
+-- p is a child of the node, or a root where there is none
+abbrev pub is_below : Option Node → Node → Bool
+is_below None p = is_none (parent p)
+is_below (Some q) p = is_child p q
+
+-- the same of a node that is not empty
+abbrev pub is_full_child : Option Node → Node → Value → Bool
+is_full_child above p v = is_below above p && not (is_empty v)
+
+-- the nodes of the entries that are such children
+abbrev pub full_children : Option Node → List (Node × Entry) → List Node
+full_children above [] = []
+full_children above (e ∷ es) = if is_full_child above e.0 e.1.value then e.0 ∷ full_children above es else full_children above es

@@ -8,7 +8,7 @@ ghost use Rattle.sync_path.specs.Paths.{Node, parent, path_cmp, same_path};
 ghost use Rattle.sync_path.specs.Order.{path_eq};
 ghost use Rattle.sync_command.specs.declared.commands.Row.{Row};
 ghost use Rattle.apply_model.specs.Steps.{NamesParent, after_step};
-ghost use Rattle.apply_model.specs.Tables.{any_dir_above, entry_with, recounted, revalued, with_child};
+ghost use Rattle.apply_model.specs.Tables.{any_dir_above, entry_with, is_below, is_full_child, recounted, revalued, with_child};
 
 use std::collections::HashMap;
 use sync_command::{Row, Value};
@@ -152,4 +152,30 @@ pub(crate) fn in_order(mut rows: Vec<Row>) -> Vec<Row>
 {
     rows.sort_unstable_by(|first, second| first.path.cmp(&second.path));
     rows
+}
+
+/// Whether the node is a child of the other, or a root where none is given.
+fn is_below(path: &Path, above: Option<&Path>) -> bool
+    ensures { result ≡ is_below (option_copied above.entry) path.now }
+{
+    match above {
+        Some(above) => above.parent_of(path),
+        None => path.depth() == 1,
+    }
+}
+
+/// The same of a node that is not empty.
+pub(crate) fn is_full_child(path: &Path, value: &Value, above: Option<&Path>) -> bool
+    ensures { result ≡ is_full_child (option_copied above.entry) path.now value.now }
+{
+    is_below(path, above) && !value.is_empty()
+}
+
+/// The paths in path order. Takes no memory.
+pub(crate) fn paths_in_order(mut paths: Vec<Path>) -> Vec<Path>
+    ensures moved { IsPermutation paths.items result.items }
+    ensures sorted { IsSortedByKey (λ (p : Node). p) path_cmp result.items }
+{
+    paths.sort_unstable_by(|first, second| first.cmp(second));
+    paths
 }
