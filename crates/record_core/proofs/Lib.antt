@@ -1,1 +1,3 @@
 pub mod ScriptLines
+pub mod OneCommand
+mod Rows

@@ -1,2 +1,9 @@
 pub mod Scripts
 pub mod OpLists
+pub mod Texts
+pub mod Changing
+pub mod Recording
+pub mod Meanings
+pub mod Outcomes
+pub mod Reading
+pub mod Steps
