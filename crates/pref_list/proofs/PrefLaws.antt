@@ -1,5 +1,5 @@
 -- The texts of preference lists.
-use Rattle.std.proofs.Common.{◌≡◌, ℕ, ◌+◌, ◌<◌, ◌≤◌, ◌^◌, Bool, true, false, nat_le, List, [], ◌∷◌, ◌++◌, length, codes, decimal, refl, sym, ap, subst, ◌∙◌, arith, ⊎_elim, Option, Some, None, Ok, Err, Result, append_assoc, append-nil, lit≤}
+use Rattle.std.proofs.Common.{◌≡◌, ℕ, ◌+◌, ◌<◌, ◌≤◌, Bool, true, false, nat_le, List, [], ◌∷◌, ◌++◌, length, codes, decimal, refl, sym, ap, subst, ◌∙◌, arith, ⊎_elim, Option, Some, None, Ok, Err, Result, append_assoc, append-nil, lit≤}
 use Rattle.std.specs.List.{AllByRecursion, join_with_byte}
 use Rattle.std.specs.Str.{bytes_eq}
 use Rattle.std.proofs.lemmas.Bool.{cases_Bool}
@@ -14,10 +14,9 @@ use Rattle.log_text.specs.declared.faults.TextFault.{TextFault}
 use Rattle.log_text.specs.declared.faults.TextKind.{TextKind}
 use Rattle.log_text.specs.declared.faults.TextKind.TheVariants as kind
 use Rattle.log_text.specs.declared.frame.TheConstants.{MAX_ITEMS}
-use Rattle.log_text.specs.Frame.{end_number, framed_of, framed_text}
+use Rattle.log_text.specs.Frame.{end_number, framed_of}
 use Rattle.log_text.proofs.CallerLemmas.{IsClear, path_field, field_clear, clear_both, decimal_digits, digits_field, parts_clear, parts_only}
 use Rattle.log_text.proofs.CallerLemmas.{IsRead, AreRead, IsSound, AreFine, joined, framed_back, framed_is, few_fine, each_fine, room_before}
-use Rattle.refluent.specs.declared.joint.TheConstants.{MAX_LOGS}
 use Rattle.pref_list.specs.declared.rules.Rule.{Rule}
 use Rattle.pref_list.specs.declared.rules.Rule.TheVariants.{At, Under, All}
 use Rattle.pref_list.specs.declared.rules.TheConstants.{MAX_WIDE}

@@ -1,5 +1,5 @@
 -- The fields of a line, and the rules of a text that was read.
-use Rattle.std.proofs.Common.{◌≡◌, ◌≢◌, ℕ, List, [], ◌∷◌, length, refl, ap, sym, subst, ◌∙◌, Option, Some, None, Ok, Err, Result, arith, Bor}
+use Rattle.std.proofs.Common.{◌≡◌, ◌≢◌, ℕ, List, [], ◌∷◌, length, refl, ap, sym, subst, ◌∙◌, Option, Some, None, Err, Result, Bor}
 use Rattle.sync_path.specs.Reading.{path_of}
 use Rattle.log_text.specs.declared.faults.TextFault.{TextFault}
 use Rattle.log_text.specs.declared.faults.TextKind.TheVariants as kind

@@ -1,4 +1,4 @@
-use Rattle.std.proofs.Common.{arith, subst, sym, ◌∙◌, ap}
+use Rattle.std.proofs.Common.{arith, sym, ◌∙◌}
 use Rattle.pref_list.proofs.Spelling.{number_spelled, number_none}
 use Rattle.pref_list.proofs.lines.log_number.Goals as goal
 use Rattle.pref_list.proofs.lines.log_number.Goals.{else-number-gt0-via-then-number-gt0+then-number+else-is_decimal, else-number-gt0-via-then-number-gt0+else-number, else-number-gt0-via-else-number-gt0}
