@@ -14,3 +14,8 @@ pub mod Climbing
 pub mod Marking
 pub mod Scans
 pub mod Merged
+pub mod ChangedTrees
+pub mod DrawnNodes
+pub mod CheckedSets
+pub mod CheckLoops
+pub mod VerdictLaws
