@@ -1,9 +1,12 @@
 -- On what conditions the calls of a tree can be done.
-use Rattle.std.specs.Prelude.{◌≡◌, ◌↔◌, true, false, IsTrue, List, Option, Some, None, ⊤, All, AllPairs, Contains}
-use Rattle.sync_path.specs.Paths.{Node, parent, comes_before}
+use Rattle.std.specs.Prelude.{◌≡◌, true, false, Option, Some, None, ⊤}
+use Rattle.sync_path.specs.Paths.{Node, parent}
 use Rattle.sync_command.specs.Values.{is_dir, is_empty}
 use Rattle.sync_command.specs.Trees.{Holding}
 use Rattle.apply_model.specs.Parents.{IsBelowDir}
+
+-- what `children` lists
+pub use Rattle.apply_model.specs.Children.{AreBelow, AreChildren}
 
 -- every child of the node is empty
 abbrev pub HasNoChild : Holding → Node → Type 0
@@ -28,12 +31,3 @@ pub record CanRemove (t : Holding) (n : Node) : Type 0 where
 abbrev pub CanList : Holding → Option Node → Type 0
 CanList t None = ⊤
 CanList t (Some n) = is_dir (t n) ≡ true
-
--- paths in path order, each once, all with this parent
-pub record AreBelow (above : Option Node) (found : List Node) : Type 0 where
-  pub order : AllPairs (λ p q. IsTrue (comes_before p q)) found
-  pub parents : All (λ p. parent p ≡ above) found
-
--- just the nodes that have this parent and are not empty
-abbrev pub AreChildren : Holding → Option Node → List Node → Type 0
-AreChildren t above found = (p : Node) → Contains found p ↔ ((parent p ≡ above) × (is_empty (t p) ≡ false))

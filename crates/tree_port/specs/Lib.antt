@@ -1,3 +1,4 @@
 pub mod States
 pub mod Conditions
 pub mod Calls
+pub mod InMemory

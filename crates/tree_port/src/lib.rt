@@ -4,8 +4,14 @@
 //! ones in memory, or not, as of one over a folder. A caller cannot ask which.
 #![tactic(auto)]
 
+mod counter;
 mod faults;
+mod fuse;
+mod maps;
+mod mem;
 mod tree;
 
 pub use self::faults::TreeFault;
+pub use self::fuse::{FuseTree, Shot};
+pub use self::mem::MemTree;
 pub use self::tree::Tree;
