@@ -1,0 +1,5 @@
+pub mod Drawing
+pub mod Turning
+pub mod Families
+pub mod Walking
+pub mod ClashLaws

@@ -1,0 +1,4 @@
+pub mod DrawnAt
+pub mod ClashLists
+pub mod Walks
+pub mod WalkStates
