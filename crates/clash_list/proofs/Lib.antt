@@ -3,3 +3,4 @@ pub mod Turning
 pub mod Families
 pub mod Walking
 pub mod ClashLaws
+pub mod Listing

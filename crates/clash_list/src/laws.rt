@@ -8,7 +8,15 @@ ghost use Rattle.refluent.specs.Sets.{HaveSameCommands};
 ghost use Rattle.refluent.specs.CommonTrees.{AllChange, IsCommonTree};
 ghost use Rattle.refluent.specs.Drawn.{drawn_commands};
 ghost use Rattle.refluent.specs.Clashes.{HasNoClash};
+ghost use Rattle.refluent.specs.Joints.{Joined, StandsForAll};
 ghost use Rattle.refluent.specs.Mergers.{IsMerger};
+ghost use Rattle.clash_list.specs.ClashLists.{clashes};
+
+/// The list of a joint's clashes is empty exactly where no two drawn commands clash.
+pub fn no_clash_is_listed_where_none_clash()
+    ensures { (j : Joined) (logs : List (List Change)) → StandsForAll j logs →
+        ((clashes j ≡ []) ↔ HasNoClash (drawn_commands logs)) }
+{}
 
 /// No two drawn commands clash exactly where all of them fit the common trees.
 pub fn drawn_commands_fit_where_none_clash()
