@@ -19,3 +19,4 @@ pub mod DrawnNodes
 pub mod CheckedSets
 pub mod CheckLoops
 pub mod VerdictLaws
+pub mod RuleSteps

@@ -44,10 +44,9 @@ fn rules_of(alloc: Global, joint: &Joint, commands: &[Command]) -> Result<Vec<Ru
 {
     let mut rules = Vec::with_capacity(alloc, commands.len())?;
     'commands: for command in commands {
-        if let Some(log) = log_of(joint, command) {
-            let path = command.path().copy(alloc)?;
-            rules.push(Rule::At { log, path })?;
-        }
+        let log = log_of(joint, command).unwrap();
+        let path = command.path().copy(alloc)?;
+        rules.push(Rule::At { log, path })?;
     }
     Ok(rules)
 }
@@ -61,6 +60,7 @@ pub fn steer(alloc: Global, joint: &Joint, set: &CanonSet) -> Result<Vec<Rule>, 
     ensures rules { IfOk result (λ rules. SteerTo joint.now set.now rules.items) }
     ensures refused { IfErr result (IsSteerFault joint.now set.now) }
 {
+    let _logs = joint.logs();
     match check(alloc, joint, set)? {
         Verdict::Merger => Ok(rules_of(alloc, joint, set.commands())?),
         Verdict::NotDrawn { path } => Err(SteerFault::NotDrawn { path }),

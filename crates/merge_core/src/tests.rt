@@ -1,7 +1,7 @@
-//! Worked mergers.
+//! Worked mergers, and sets that are steered to.
 
-use crate::merge;
-use canon_set::LogSum;
+use crate::{SteerFault, merge, steer};
+use canon_set::{LogSum, canon};
 use pref_list::{Rule, rank};
 use refluent::{Joint, MAX_LOGS, join};
 use std::alloc::Global;
@@ -107,16 +107,127 @@ const CASES: &[Case] = &[
     },
 ];
 
+/// Logs, a set by its commands, and what steering to it answers: a line for each rule, or the fault.
+struct Target {
+    logs: &'static [&'static [Line]],
+    set: &'static [Line],
+    answer: &'static str,
+}
+
+const TWO_VALUES: &[&[Line]] = &[&[("a/x", "f:1", "f:2")], &[("a/x", "f:1", "f:3")]];
+
+const EMPTIED: &[&[Line]] = &[
+    &[("a/x", "f:1", "-"), ("a", "d", "-")],
+    &[("a/y", "-", "f:2")],
+];
+
+const MADE: &[&[Line]] = &[
+    &[("a", "f:1", "-"), ("a", "-", "d"), ("a/x", "-", "f:2")],
+    &[("a", "f:1", "f:3")],
+];
+
+const TARGETS: &[Target] = &[
+    Target {
+        logs: TWO_VALUES,
+        set: &[("a/x", "f:1", "f:3")],
+        answer: "2 a/x\n",
+    },
+    Target {
+        logs: TWO_VALUES,
+        set: &[],
+        answer: "can add 1 a/x",
+    },
+    Target {
+        logs: TWO_VALUES,
+        set: &[("a/x", "f:1", "f:4")],
+        answer: "not drawn a/x",
+    },
+    Target {
+        logs: EMPTIED,
+        set: &[("a/x", "f:1", "-"), ("a/y", "-", "f:2")],
+        answer: "1 a/x\n2 a/y\n",
+    },
+    Target {
+        logs: EMPTIED,
+        set: &[("a/x", "f:1", "-")],
+        answer: "can add 1 a",
+    },
+    Target {
+        logs: EMPTIED,
+        set: &[("a", "d", "-")],
+        answer: "does not fit a/x",
+    },
+    Target {
+        logs: EMPTIED,
+        set: &[("a/q", "-", "d")],
+        answer: "not drawn a/q",
+    },
+    Target {
+        logs: MADE,
+        set: &[("a", "f:1", "d"), ("a/x", "-", "f:2")],
+        answer: "1 a\n1 a/x\n",
+    },
+    Target {
+        logs: MADE,
+        set: &[("a", "f:1", "f:3")],
+        answer: "2 a\n",
+    },
+    Target {
+        logs: MADE,
+        set: &[("a/x", "-", "f:2")],
+        answer: "does not fit a/x",
+    },
+];
+
+/// What steering to the set answers, as text.
+fn answer_for(alloc: Global, joint: &Joint, lines: &[Line]) -> Result<Vec<u8>, Fail> {
+    let mut commands = Vec::new(alloc);
+    for line in lines {
+        commands.push(command_of(alloc, line)?)?;
+    }
+    let set = canon(alloc, &commands)?;
+    let mut out = Vec::new(alloc);
+    match steer(alloc, joint, &set) {
+        Ok(rules) => {
+            for rule in &rules {
+                if let Rule::At { log, path } = rule {
+                    out.extend_from_slice(format!(in alloc; "{log} ")?.as_bytes())?;
+                    path.print_to(&mut out)?;
+                    out.push(b'\n')?;
+                }
+            }
+        }
+        Err(SteerFault::NotDrawn { path }) => print(&mut out, b"not drawn ", &path)?,
+        Err(SteerFault::DoesNotFit { path }) => print(&mut out, b"does not fit ", &path)?,
+        Err(SteerFault::CanAdd { log, path }) => {
+            let word = format!(in alloc; "can add {log} ")?;
+            print(&mut out, word.as_bytes(), &path)?;
+        }
+        Err(SteerFault::Memory) => return Err("out of memory".into()),
+    }
+    Ok(out)
+}
+
+fn print(out: &mut Vec<u8>, word: &[u8], path: &Path) -> Result<(), Fail> {
+    out.extend_from_slice(word)?;
+    path.print_to(out)?;
+    Ok(())
+}
+
+fn command_of(alloc: Global, line: &Line) -> Result<Command, Fail> {
+    let (node, old, new_value) = *line;
+    let path = Path::read(alloc, node.as_bytes())?;
+    let old = Value::read(alloc, Version::Two, old.as_bytes())?;
+    let new_value = Value::read(alloc, Version::Two, new_value.as_bytes())?;
+    Ok(Command::new(path, old, new_value)?)
+}
+
 fn joined(alloc: Global, logs: &[&[Line]]) -> Result<Joint, Fail> {
     let mut sums = Vec::new(alloc);
     for lines in logs {
         let mut sum = LogSum::new(alloc);
         for line in *lines {
-            let (node, old, new_value) = *line;
-            let path = Path::read(alloc, node.as_bytes())?;
-            let old = Value::read(alloc, Version::Two, old.as_bytes())?;
-            let new_value = Value::read(alloc, Version::Two, new_value.as_bytes())?;
-            sum.add(Command::new(path, old, new_value)?)?;
+            sum.add(command_of(alloc, line)?)?;
         }
         sums.push(sum)?;
     }
@@ -127,7 +238,7 @@ fn joined(alloc: Global, logs: &[&[Line]]) -> Result<Joint, Fail> {
 }
 
 #[test]
-fn first_mergers(rt: HostRuntime) -> Result<(), Fail> {
+fn first_mergers_and_steering(rt: HostRuntime) -> Result<(), Fail> {
     let alloc = rt.alloc();
     for case in CASES {
         let joint = joined(alloc, case.logs)?;
@@ -148,6 +259,15 @@ fn first_mergers(rt: HostRuntime) -> Result<(), Fail> {
             let wanted = Value::read(alloc, Version::Two, value.as_bytes())?;
             assert!(rt; command.is_some_and(|command| command.new_value().same(&wanted)));
         }
+    }
+    for case in TARGETS {
+        let joint = joined(alloc, case.logs)?;
+        let answer = answer_for(alloc, &joint, case.set)?;
+        assert!(rt;
+            answer.as_slice() == case.answer.as_bytes(),
+            "{}",
+            case.answer
+        );
     }
     Ok(())
 }
