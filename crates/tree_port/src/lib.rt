@@ -7,11 +7,13 @@
 mod counter;
 mod faults;
 mod fuse;
+mod host;
 mod maps;
 mod mem;
 mod tree;
 
 pub use self::faults::TreeFault;
 pub use self::fuse::{FuseTree, Shot};
+pub use self::host::HostTree;
 pub use self::mem::MemTree;
 pub use self::tree::Tree;
