@@ -22,7 +22,7 @@ use Rattle.pref_list.specs.Picks.{first_with}
 use Rattle.pref_list.specs.Numbers.{IsNodeAt, AreNodesOf}
 use Rattle.pref_list.proofs.CallerLemmas.{one_each-net, in_from_place, path_within, set_at_number, set_of_next, last_or, set_or, set_here, set_other}
 use Rattle.merge_core.specs.declared.checking.After.{After}
-use Rattle.merge_core.specs.Marks.{AreParentsOf}
+use Rattle.merge_core.specs.Parents.{AreParentsOf}
 use Rattle.merge_core.specs.Verdicts.{IsBefore, IsFirstCommand}
 use Rattle.merge_core.specs.Afterwards.{IsLeastLog, IsAfter, AreFilled, HasFullChild, IsAddable, IsPlaceOf, is_full_in, marked, can_add}
 use Rattle.merge_core.proofs.DrawnNodes.{IsStanding, standing, in_turn_from}

@@ -23,7 +23,7 @@ use Rattle.refluent.proofs.CallerLemmas.{IsCommon, IsDrawn, common_holding, leas
 use Rattle.pref_list.specs.Numbers.{IsNodeAt}
 use Rattle.pref_list.proofs.CallerLemmas.{rising_at}
 use Rattle.merge_core.specs.declared.checking.After.{After}
-use Rattle.merge_core.specs.Marks.{AreParentsOf}
+use Rattle.merge_core.specs.Parents.{AreParentsOf}
 use Rattle.merge_core.specs.Verdicts.{IsMisfit, IsFirstMisfit, CanBeAdded}
 use Rattle.merge_core.specs.Afterwards.{IsAfter, AreAfter, AreFilled, HasFullChild, IsAddable, is_dir_in, is_full_in, is_named_in, flag_of, is_bare, is_misfit, can_add}
 use Rattle.merge_core.proofs.ChangedTrees.{IsBelowDir, HoldsChild, not_both, put_tree, below_from_put, none_from_put}

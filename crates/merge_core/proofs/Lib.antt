@@ -10,9 +10,6 @@ pub mod Steering
 pub mod Turning
 pub mod Steered
 pub mod ParentPlaces
-pub mod Climbing
-pub mod Marking
-pub mod Scans
 pub mod Merged
 pub mod ChangedTrees
 pub mod DrawnNodes
@@ -20,3 +17,14 @@ pub mod CheckedSets
 pub mod CheckLoops
 pub mod VerdictLaws
 pub mod RuleSteps
+pub mod DrawnBoards
+pub mod FilledNodes
+pub mod Between
+pub mod Beside
+pub mod RankedNumbers
+pub mod Greedily
+pub mod Turned
+pub mod JointBoards
+pub mod RankedBoards
+pub mod ScannedBoards
+pub mod TakenSets

@@ -60,21 +60,3 @@ same_canonical cs ds is = record {
   one = one_each-canonical ds is.one;
   same = λ p. command_at-canonical ds is.one p ∙ is.same p;
 }
-
-module _ (j : Joined) (rules : List Rule) (taken : List Change) (is : IsSameSet (greedy_scan (ranked j.sets rules) []) taken) where
-  taken_as : (logs : List (List Change)) → StandsForAll j logs → IsSameSet (greedy_scan (ranking logs rules) []) taken
-  taken_as logs stands = subst (λ sets. IsSameSet (greedy_scan (ranked sets rules) []) taken) stands.sets is
-
-  pub taken_first : (logs : List (List Change)) (m : Store) → StandsForAll j logs → IsCommonTree m logs → IsFirstMerger (at m) (drawn_commands logs) (ranking logs rules) taken
-  taken_first logs m stands common = first_same (at m) (drawn_commands logs) (ranking logs rules) (greedy_scan (ranking logs rules) []) taken (taken_as logs stands) (greedy_law logs stands.change m common rules)
-
-  pub taken_fitting : IsJoint j → IsFitting taken
-  taken_fitting joint = let common = joint.stands.common in record {
-    map = common.map;
-    tree = common.common.tree;
-    fits = (taken_first joint.logs common.map joint.stands common.common).merger.fits;
-  }
-
-pub merged_for : (j : Joined) (rules : List Rule) (taken set : List Change) → IsSameSet (greedy_scan (ranked j.sets rules) []) taken → set ≡ canonical taken →
-    (logs : List (List Change)) (m : Store) → StandsForAll j logs → IsCommonTree m logs → IsFirstMerger (at m) (drawn_commands logs) (ranking logs rules) set
-merged_for j rules taken set is e logs m stands common = taken_first j rules set (subst (IsSameSet (greedy_scan (ranked j.sets rules) [])) (sym e) (same_canonical (greedy_scan (ranked j.sets rules) []) taken is)) logs m stands common

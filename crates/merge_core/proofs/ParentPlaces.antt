@@ -10,7 +10,7 @@ use Rattle.pref_list.proofs.CallerLemmas.{one_place, rising_at, last_or}
 use Rattle.refluent.specs.Joints.{Joined, IsJoint, path_at, is_ascending}
 use Rattle.refluent.specs.Picks.{IsParentPlace}
 use Rattle.pref_list.specs.Numbers.{IsNodeAt}
-use Rattle.merge_core.specs.Marks.{AreParentsOf}
+use Rattle.merge_core.specs.Parents.{AreParentsOf}
 
 ascending_of : (j : Joined) → IsJoint j → is_ascending j.nodes ≡ true
 ascending_of j is = is.stands.order

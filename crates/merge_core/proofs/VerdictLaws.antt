@@ -18,7 +18,7 @@ use Rattle.pref_list.specs.Ranking.{set_from, set_of}
 use Rattle.pref_list.specs.Numbers.{IsPick}
 use Rattle.pref_list.proofs.CallerLemmas.{in_from_place}
 use Rattle.merge_core.specs.declared.checking.After.{After}
-use Rattle.merge_core.specs.Marks.{AreParentsOf}
+use Rattle.merge_core.specs.Parents.{AreParentsOf}
 use Rattle.merge_core.specs.Verdicts.{is_undrawn, CanBeAdded, IsBefore, IsFirstCommand}
 use Rattle.merge_core.specs.Afterwards.{AreAfter, AreFilled, IsAddable, IsFirstPick, is_misfit}
 use Rattle.merge_core.proofs.DrawnNodes.{IsStanding, drawn_in_turn, drawn_standing, in_turn_from}

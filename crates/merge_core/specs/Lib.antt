@@ -1,8 +1,9 @@
 pub mod Conflicts
 pub mod FirstMergers
 pub mod Steering
-pub mod Marks
 pub mod Taken
+pub mod Parents
 pub mod Verdicts
 pub mod Afterwards
 pub mod Steered
+pub mod Boards

@@ -12,7 +12,7 @@ ghost use Rattle.refluent.specs.Families.{IsFirstPlace};
 ghost use Rattle.refluent.specs.Joints.{IsJoint, path_at, value_at};
 ghost use Rattle.pref_list.specs.Ranking.{set_of};
 ghost use Rattle.pref_list.specs.Numbers.{AreNodesOf, AreAllNodesOf};
-ghost use Rattle.merge_core.specs.Marks.{AreParentsOf};
+ghost use Rattle.merge_core.specs.Parents.{AreParentsOf};
 ghost use Rattle.merge_core.specs.Verdicts.{IsVerdictOf};
 ghost use Rattle.merge_core.specs.Afterwards.{IsLeastLog, IsAfter, AreAfter, AreFilled, IsAddable, IsPlaceOf, IsFirstPick, is_bare, marked, is_misfit, can_add};
 

@@ -3,15 +3,16 @@
 //! `specs/` holds the definitions, and `docs/MODEL.md` explains them in words.
 #![tactic(auto)]
 
+mod board_scan;
 mod checking;
 pub mod laws;
-mod marks;
 mod merging;
 mod parents;
 mod steering_rules;
 #[cfg(test)]
 mod tests;
 
+pub use self::board_scan::{Scanned, scan, turn};
 pub use self::checking::{Verdict, check};
-pub use self::merging::merge;
+pub use self::merging::{merge, merge_counted};
 pub use self::steering_rules::{SteerFault, steer};

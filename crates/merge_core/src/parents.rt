@@ -2,7 +2,7 @@
 
 ghost use Rattle.std.specs.Prelude.{IfOk};
 ghost use Rattle.refluent.specs.Joints.{IsJoint};
-ghost use Rattle.merge_core.specs.Marks.{AreParentsOf};
+ghost use Rattle.merge_core.specs.Parents.{AreParentsOf};
 
 use refluent::Joint;
 use std::alloc::Global;

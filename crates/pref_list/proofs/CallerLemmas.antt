@@ -7,3 +7,4 @@ pub use Rattle.pref_list.proofs.Places.{one_place, rising_at}
 pub use Rattle.pref_list.proofs.RankingLaws.{in_turn-nets, drawn_ranked, ranked_once, ranking_drawn}
 -- texts of preference lists that are read again, and what is read
 pub use Rattle.pref_list.proofs.PrefLaws.{prefs_is, prefs_back, one_prefs}
+pub use Rattle.pref_list.proofs.RankingLaws.{in_turn-nets, from_log, in_ranked, drawn_ranked, ranked_once, ranking_drawn}

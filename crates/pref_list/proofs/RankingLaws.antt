@@ -62,7 +62,7 @@ ranked_in sets rules c e = go (cases_or (is_in (expansions sets rules) c) (is_in
     go (inl h) = is_in-without_repeats (in_turn sets) c ∙ from_rules sets rules c h
     go (inr h) = is_in-without_repeats (in_turn sets) c ∙ h
 
-in_ranked : (sets : List (List Change)) (rules : List Rule) → IsSubset (without_repeats (in_turn sets)) (ranked sets rules)
+pub in_ranked : (sets : List (List Change)) (rules : List Rule) → IsSubset (without_repeats (in_turn sets)) (ranked sets rules)
 in_ranked sets rules c e =
     is_in-without_repeats (expansions sets rules ++ in_turn sets) c ∙ is_in-append (expansions sets rules) (in_turn sets) c
     ∙ right (is_in (expansions sets rules) c) (is_in (in_turn sets) c) (sym (is_in-without_repeats (in_turn sets) c) ∙ e)

@@ -18,7 +18,7 @@ mod tests;
 
 pub use self::faults::RankFault;
 pub use self::nodes::{nodes_of, place_of};
-pub use self::numbers::command_at;
+pub use self::numbers::{Numbers, command_at, number_all};
 pub use self::prefs::{print_prefs, read_prefs};
 pub use self::ranking::{Ranking, rank};
 pub use self::rules::{MAX_WIDE, Rule};

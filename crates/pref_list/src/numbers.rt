@@ -15,8 +15,8 @@ use sync_path::NoMemory;
 
 /// The drawn commands, numbered from 0 by their least log and then by their place in its net set: the pick of each, and
 /// the number of each net command, one list for each log.
-#[derive(Drop)]
-pub(crate) struct Numbers {
+#[derive(Debug, Drop)]
+pub struct Numbers {
     pub picks: Vec<Pick>,
     pub lists: Vec<Vec<usize>>,
 }
@@ -145,7 +145,7 @@ fn no_chains(alloc: Global, joint: &Joint) -> Result<Chains, NoMemory>
 }
 
 /// Numbers the drawn commands of a joint.
-pub(crate) fn number_all(alloc: Global, joint: &Joint) -> Result<Numbers, NoMemory>
+pub fn number_all(alloc: Global, joint: &Joint) -> Result<Numbers, NoMemory>
     ensures { IfOk result (IsNumberingOf joint.now) }
 {
     let nodes = nodes_of(alloc, joint)?;

@@ -3,7 +3,7 @@ use Rattle.std.specs.Prelude.{find}
 use Rattle.std.specs.Option.{option_copied}
 use Rattle.refluent.specs.Sets.{is_in}
 use Rattle.refluent.specs.Drawn.{in_turn}
-use Rattle.merge_core.specs.Marks.{AreParentsOf}
+use Rattle.merge_core.specs.Parents.{AreParentsOf}
 use Rattle.merge_core.specs.Afterwards.{AreAfter, AreFilled}
 use Rattle.merge_core.proofs.CheckedSets.{first_misfit_is}
 use Rattle.merge_core.proofs.VerdictLaws.{undrawn_is, all_drawn, same_node, set_fits, first_addable_is, merger_is, pick_of}

@@ -1,0 +1,10 @@
+pub mod Tables
+pub mod Linked
+pub mod Named
+pub mod Turns
+pub mod Settling
+pub mod Inside
+pub mod Counts
+pub mod Boards
+pub mod Columns
+pub mod Built
