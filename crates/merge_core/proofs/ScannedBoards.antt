@@ -1,5 +1,5 @@
 -- Turns and scans of the board of a joint.
-use Rattle.std.proofs.Common.{◌≡◌, ℕ, suc, ◌+◌, ◌*◌, ◌<◌, ◌≤◌, true, ap, sym, subst, ◌∙◌, arith, List, [], length, Option, Some, None}
+use Rattle.std.proofs.Common.{◌≡◌, ℕ, suc, ◌+◌, ◌*◌, ◌<◌, ◌≤◌, true, refl, ap, sym, subst, ◌∙◌, arith, List, [], length, Option, Some, None}
 use Rattle.std.specs.Prelude.{IsTrue, is_some, slice_index}
 use Rattle.std.specs.List.{slice_get}
 use Rattle.std.proofs.lemmas.Option.{slice_get_within}
@@ -15,11 +15,11 @@ use Rattle.pref_list.specs.Orders.{IsRankingOf}
 use Rattle.scan_board.specs.declared.board.Mark.TheVariants.{Open, Taken, Blocked}
 use Rattle.scan_board.specs.Tables.{Tables, State, number_at, mark_of, command_count, credit}
 use Rattle.scan_board.specs.Settling.{IsSettled, IsMade}
-use Rattle.scan_board.specs.Boards.{command_numbered, path_named, IsTableOf, IsBoardOf}
+use Rattle.scan_board.specs.Boards.{command_numbered, path_named, IsTableOf, IsBoardOf, IsNew}
 use Rattle.merge_core.specs.FirstMergers.{IsFirstMerger}
-use Rattle.merge_core.specs.Boards.{IsSettledFor, IsSettledOf, IsMarked, IsScannedOf}
+use Rattle.merge_core.specs.Boards.{HasSet, IsTaken, IsSettledFor, IsSettledOf, IsMarked, IsScannedOf}
 use Rattle.merge_core.proofs.Between.{made_of}
-use Rattle.merge_core.proofs.Beside.{settled_from}
+use Rattle.merge_core.proofs.Beside.{settled_from, settled_to}
 use Rattle.merge_core.proofs.Turned.{turned}
 use Rattle.merge_core.proofs.Greedily.{IsScan, scan_step, scan_ends, scan_cost}
 use Rattle.merge_core.proofs.JointBoards.{board_is_of, number_low, has_number}
@@ -82,3 +82,16 @@ scanned_for j rules s r picks k from to of is all w logs m stands common =
 
 pub cost_for : (j : Joined) (rules : List Rule) (s r : State) (picks : List Pick) (k from to : ℕ) → IsBoardOf j s.tables → IsRankingOf j.sets rules picks → k ≤ length picks → IsScan s r (numbers_by s.tables picks) k from to → to ≤ from + 20 * command_count s.tables
 cost_for j rules s r picks k from to of is l w = scan_cost s r (numbers_by s.tables picks) k from to (ranking_numbers j s.tables of.back of.is rules picks is) (rw (numbers_long s.tables picks) l) w
+
+-- a new board is settled for each common tree
+pub settled_new : (j : Joined) (s : State) → IsNew j s → IsSettledOf j s
+settled_new j s new logs m stands common =
+    settled_to (at m) (drawn_commands logs) (command_numbered j.sets s.tables) (path_named j.nodes new.of.back) s new.of.is.sound (board_is_of j s.tables new.of.back new.of.is logs m stands common) new.settled none
+  where
+    none : HasSet (at m) (drawn_commands logs) (command_numbered j.sets s.tables) (command_count s.tables) (IsTaken s)
+    none = record {
+      set = [];
+      within = (λ c e. cc (e));
+      fits = record { one = refl; olds = (λ n c e. cc (e)); tree = common.tree.tree };
+      has = (λ i l e. absurd (let z : Open ≡ Taken = sym (new.fresh i l) ∙ e in cc (z)));
+    }

@@ -20,7 +20,8 @@ use std::sync::ledger::Ledger;
 /// settled again, for each joint that it is of, and the credit pays for all steps but two. Takes no memory.
 pub fn turn<L: Ledger>(board: &mut Board<L>, log: u32, place: usize, steps: &mut Steps<L>)
     requires place { IsTrue (is_some (number_at board.old.tables log place)) }
-    requires settled { (j : Joined) × IsJoint j × IsBoardOf j board.old.tables × IsSettledOf j board.old }
+    requires settled { (j : Joined) × IsJoint j × IsBoardOf j board.old.tables ×
+        IsSettledOf j board.old }
     ensures tables { board.new.tables ≡ board.old.tables }
     ensures settled { (j : Joined) → IsJoint j → IsBoardOf j board.old.tables →
         IsSettledOf j board.old → IsSettledOf j board.new }

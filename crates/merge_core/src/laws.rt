@@ -9,6 +9,10 @@ ghost use Rattle.refluent.specs.Sets.{is_in, IsSubset, HaveSameCommands};
 ghost use Rattle.refluent.specs.CommonTrees.{AllChange, IsCommonTree};
 ghost use Rattle.refluent.specs.Drawn.{drawn_commands};
 ghost use Rattle.refluent.specs.Clashes.{HasNoClash};
+ghost use Rattle.refluent.specs.Joints.{Joined};
+ghost use Rattle.scan_board.specs.Tables.{State};
+ghost use Rattle.scan_board.specs.Boards.{IsNew};
+ghost use Rattle.merge_core.specs.Boards.{IsSettledOf};
 ghost use Rattle.pref_list.specs.declared.rules.Rule.{Rule};
 ghost use Rattle.pref_list.specs.Ranking.{ranking};
 ghost use Rattle.merge_core.specs.Steering.{steering_rules};
@@ -81,4 +85,9 @@ pub fn conflicts_tell_what_can_be_taken()
         IsTrue (is_in (drawn_commands logs) c) →
         (IsExtendable (at m) (drawn_commands logs) (c ∷ taken) ↔ (list_any (conflicts c) taken ≡
         false)) }
+{}
+
+/// A new board of a joint is settled for it.
+pub fn new_board_is_settled()
+    ensures { (j : Joined) (s : State) → IsNew j s → IsSettledOf j s }
 {}

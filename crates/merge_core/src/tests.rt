@@ -1,10 +1,17 @@
 //! Worked mergers, and sets that are steered to.
 
-use crate::{SteerFault, merge, steer};
+ghost use Rattle.std.specs.Prelude.{◌≡◌, List};
+ghost use Rattle.pref_list.specs.declared.rules.Rule as rule;
+ghost use Rattle.pref_list.specs.Orders.{IsRankingOf};
+
+use crate::{SteerFault, merge, merge_counted, steer};
 use canon_set::{LogSum, canon};
-use pref_list::{Rule, rank};
+use pref_list::{Ranking, Rule, rank};
 use refluent::{Joint, MAX_LOGS, join};
+use scan_board::{Mark, Steps};
 use std::alloc::Global;
+use std::marker::Brand;
+use std::sync::ledger::{Blank, Ledger};
 use std::test::Fail;
 use sync_command::{Command, Value, Version};
 use sync_path::Path;
@@ -237,6 +244,31 @@ fn joined(alloc: Global, logs: &[&[Line]]) -> Result<Joint, Fail> {
     Ok(join(alloc, sums)?)
 }
 
+/// The marks of the scanned board in the order of the ranking, and the steps of the scan.
+fn scanned_marks<L: Ledger>(
+    alloc: Global,
+    joint: &Joint,
+    ranking: &Ranking,
+    blank: Blank,
+) -> Result<(Vec<Mark>, u64), Fail>
+    requires name { blank.name ≡ L.name }
+    requires parts { blank.parts ≡ L.parts }
+    requires one { blank.parts ≡ 1 }
+    requires ranking { (rules : List rule.Rule) × IsRankingOf joint.now.sets rules ranking.now }
+{
+    let mut steps = Steps::<L>::new(blank);
+    let scanned = merge_counted(alloc, joint, ranking, &mut steps)?;
+    let count = steps.count();
+    let mut marks = Vec::new(alloc);
+    let board = scanned.board();
+    'ranking: for place in 0..ranking.len() {
+        let pick = ranking.entry(place);
+        let number = board.number(pick.log, pick.place, &mut steps);
+        marks.push(board.look(number, &mut steps).mark)?;
+    }
+    Ok((marks, count))
+}
+
 #[test]
 fn first_mergers_and_steering(rt: HostRuntime) -> Result<(), Fail> {
     let alloc = rt.alloc();
@@ -259,6 +291,11 @@ fn first_mergers_and_steering(rt: HostRuntime) -> Result<(), Fail> {
             let wanted = Value::read(alloc, Version::Two, value.as_bytes())?;
             assert!(rt; command.is_some_and(|command| command.new_value().same(&wanted)));
         }
+        let (marks, steps) = scanned_marks::<Brand>(alloc, &joint, &ranking, Blank::new(1))?;
+        let taken = marks.iter().filter(|mark| **mark == Mark::Taken).count();
+        let blocked = marks.iter().filter(|mark| **mark == Mark::Blocked).count();
+        assert!(rt; taken == case.merger.len() && blocked == joint.drawn().saturating_sub(taken));
+        assert!(rt; steps <= (joint.drawn() as u64).saturating_mul(20));
     }
     for case in TARGETS {
         let joint = joined(alloc, case.logs)?;

@@ -1,3 +1,4 @@
+-- What a walk down closes.
 use Rattle.std.proofs.Common.{◌≡◌, ℕ, zero, suc, ◌<◌, Bool, true, false, refl, ap, sym, subst, ◌∙◌, arith, ◌⊎◌, inl, inr, List, Option, Some, None}
 use Rattle.std.specs.Prelude.{unwrap_or, [], ◌∷◌, ◌++◌}
 use Rattle.sync_command.specs.declared.values.Kind.TheVariants.{Empty}

@@ -1,3 +1,4 @@
+-- The counts of directories after a mark.
 use Rattle.std.proofs.Common.{◌≡◌, ℕ, ◌+◌, ◌-◌, ◌<◌, Bool, true, false, not, refl, ap, sym, subst, ◌∙◌, arith, ◌⊎◌, inl, inr, Some, List, length, slice_set, slice_index_or, get_or-set_same, get_or-set_other}
 use Rattle.std.specs.Prelude.{◌&&◌, slice_index}
 use Rattle.sync_command.specs.declared.values.Kind.{Kind}

@@ -1,3 +1,4 @@
+-- What is under a bare node, however deep.
 use Rattle.std.proofs.Common.{◌≡◌, ℕ, zero, suc, ◌<◌, true, refl, ap, sym, subst, ◌∙◌, arith, ◌⊎◌, inl, inr, Option, Some, None}
 use Rattle.sync_command.specs.declared.values.Kind.{Kind}
 use Rattle.sync_command.specs.declared.values.Kind.TheVariants.{Empty, Dir, File}

@@ -1,3 +1,4 @@
+-- Why commands become blocked in a walk.
 use Rattle.std.proofs.Common.{◌≡◌, ℕ, zero, suc, ◌<◌, true, refl, ap, sym, subst, ◌∙◌, ◌⊎◌, inl, inr, Option, Some}
 use Rattle.std.specs.Prelude.{[], ◌∷◌, ◌++◌}
 use Rattle.sync_command.specs.declared.values.Kind.TheVariants.{Empty}

@@ -1,3 +1,4 @@
+-- What a turn takes and blocks.
 use Rattle.std.proofs.Common.{◌≡◌, ℕ, ◌<◌, Bool, true, false, refl, ap, sym, subst, ◌∙◌, ◌⊎◌, inl, inr, Some, slice_set, slice_index_or, get_or-set_same, get_or-set_other, length, List}
 use Rattle.std.specs.Prelude.{◌&&◌, if◌then◌else◌}
 use Rattle.sync_command.specs.declared.values.Kind.TheVariants.{Empty, Dir}

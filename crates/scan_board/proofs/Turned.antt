@@ -1,3 +1,4 @@
+-- A turn keeps a board settled.
 use Rattle.std.proofs.Common.{◌≡◌, ℕ, zero, suc, ◌<◌, ◌≤◌, Bool, true, false, refl, ap, sym, subst, ◌∙◌, arith, ◌⊎◌, inl, inr, Option, Some, None, List, slice_set, slice_index_or, get_or-set_same, get_or-set_other}
 use Rattle.std.specs.Prelude.{[]}
 use Rattle.sync_command.specs.declared.values.Kind.{Kind}

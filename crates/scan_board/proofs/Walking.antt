@@ -1,3 +1,4 @@
+-- The lists of commands and of children, and what a walk along them costs.
 use Rattle.std.proofs.Common.{◌≡◌, ℕ, zero, suc, ◌+◌, ◌-◌, ◌*◌, ◌<◌, ◌≤◌, Bool, true, false, refl, ap, sym, subst, ◌∙◌, arith, ◌⊎◌, inl, inr, List, length, Option, Some, None, nat_eq, nat_lt, slice_set, slice_index_or, get_or-set_same, get_or-set_other, length-append}
 use Rattle.std.specs.Prelude.{if◌then◌else◌, unwrap_or, ◌&&◌, ◌||◌, not, [], ◌∷◌, ◌++◌}
 use Rattle.std.proofs.lemmas.Grind.{common_steps}

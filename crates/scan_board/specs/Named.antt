@@ -11,4 +11,3 @@ pub record IsNamed (heads index : List (Option ℕ)) (back : List ℕ) (k : ℕ)
   pub has_head : (n : ℕ) → n < length back → option_at heads (slice_index back n) ≡ None → ⊥
   pub named : (q i : ℕ) → q < k → option_at heads q ≡ Some i → option_at index q ≡ None → ⊥
   pub rising : (n m : ℕ) → n < m → m < length back → slice_index back n < slice_index back m
-

@@ -1,3 +1,4 @@
+-- When a board is settled, in terms of its tables, and what holds during a turn.
 use Rattle.std.specs.Prelude.{◌≡◌, ℕ, ◌<◌, Bool, true, false, not, ◌&&◌, Option, Some, ◌⊎◌, [], slice_index}
 use Rattle.sync_command.specs.declared.values.Kind.{Kind}
 use Rattle.sync_command.specs.declared.values.Kind.TheVariants.{Empty, Dir, File}

@@ -1,3 +1,4 @@
+-- What the steps of a turn do to a board.
 use Rattle.std.specs.Prelude.{◌≡◌, ℕ, zero, suc, ◌<◌, Bool, true, false, ◌&&◌, ◌⊎◌, List, [], ◌∷◌, Option, Some, None, if◌then◌else◌, ◌+◌, ◌*◌, ◌≤◌, nat_lt}
 use Rattle.sync_command.specs.declared.values.Kind.{Kind}
 use Rattle.sync_command.specs.declared.values.Kind.TheVariants.{Empty, Dir, File}
@@ -79,9 +80,6 @@ IsDeep s = (n i : ℕ) → is_bare s n ≡ true → i < command_count s.tables �
 -- only commands of children of the node change
 abbrev pub ChangesBelow : State → State → ℕ → Type 0
 ChangesBelow s r n = (i : ℕ) → i < command_count s.tables → (parent_of s.tables (node_of s.tables i) ≡ Some n → ⊥) → mark_of r i ≡ mark_of s i
-
-abbrev pub CreditBound : Type 0
-CreditBound = (s : State) → credit s ≤ 18 * command_count s.tables
 
 -- what shut says between turns
 pub record IsShutOk (s : State) : Type 0 where

@@ -152,7 +152,8 @@ impl<L: Ledger> Board<L> {
     /// Marks a command, and gives its card as it then is. One step.
     pub fn mark(&mut self, command: usize, mark: Mark, steps: &mut Steps<L>) -> Card
         requires { command < command_count self.old.tables }
-        ensures written { self.new ≡ record self.old { marks = slice_set self.old.marks command mark } }
+        ensures written { self.new
+            ≡ record self.old { marks = slice_set self.old.marks command mark } }
         ensures node { result.node ≡ node_of self.old.tables command }
         ensures leaves { result.leaves ≡ leaves_of self.old.tables command }
         ensures next { result.next ≡ next_of self.old.tables command }
@@ -208,7 +209,8 @@ impl<L: Ledger> Board<L> {
 
     /// Takes off the pile the number that was put on last; None comes exactly where it is empty. One step.
     pub fn pop(&mut self, steps: &mut Steps<L>) -> Option<usize>
-        ensures some { IfSome result (λ x. self.old ≡ record self.new { pile = self.new.pile ++ x ∷ [] }) }
+        ensures some { IfSome result (λ x. self.old
+            ≡ record self.new { pile = self.new.pile ++ x ∷ [] }) }
         ensures none { IfNone result ((self.old.pile ≡ []) × (self.new ≡ self.old)) }
         ensures board { IsBoard self.new }
         ensures step { steps.new ≡ steps.old + 1 }

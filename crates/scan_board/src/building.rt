@@ -50,11 +50,7 @@ fn node_at(nodes: &[Vec<usize>], pick: Pick) -> usize
 }
 
 /// The places of the nodes of the drawn commands, by number.
-fn keys_of(
-    alloc: Global,
-    joint: &Joint,
-    numbers: &Numbers,
-) -> Result<Vec<Option<usize>>, NoMemory>
+fn keys_of(alloc: Global, joint: &Joint, numbers: &Numbers) -> Result<Vec<Option<usize>>, NoMemory>
     requires { IsNumberingOf joint.now numbers.now }
     ensures { IfOk result (λ keys. IsColumn keys.items None
         (IsKey joint.now numbers.now.picks.items) (length numbers.now.picks.items)) }
@@ -87,11 +83,7 @@ pub(crate) fn name_joint(alloc: Global, joint: &Joint) -> Result<Naming, NoMemor
 }
 
 /// The numbers of the parents of the named nodes.
-fn parents_of(
-    alloc: Global,
-    joint: &Joint,
-    naming: &Naming,
-) -> Result<Vec<Option<usize>>, NoMemory>
+fn parents_of(alloc: Global, joint: &Joint, naming: &Naming) -> Result<Vec<Option<usize>>, NoMemory>
     requires { IsNamingOf joint.now naming.now }
     ensures { IfOk result (λ parents. IsColumn parents.items None
         (IsUp joint.now naming.now) (length naming.now.names.back.items)) }
@@ -163,11 +155,7 @@ fn zeros(alloc: Global, total: usize) -> Result<Vec<u64>, NoMemory>
 }
 
 /// How many commands of each node leave a directory.
-pub(crate) fn count_dirs(
-    alloc: Global,
-    cards: &[Card],
-    total: usize,
-) -> Result<Vec<u64>, NoMemory>
+pub(crate) fn count_dirs(alloc: Global, cards: &[Card], total: usize) -> Result<Vec<u64>, NoMemory>
     requires { (i : ℕ) → i < length cards.now → (card_at cards.now i).node < total }
     ensures { IfOk result (λ dirs. IsColumn dirs.items 0 (IsDirs cards.now) total) }
 {

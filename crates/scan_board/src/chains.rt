@@ -36,7 +36,8 @@ pub(crate) fn through(list: &[Option<usize>], key: Option<usize>) -> Option<usiz
 fn put_first(heads: &mut Vec<Option<usize>>, key: Option<usize>, index: usize) -> Option<usize>
     requires { IsOptionWithin key (vec_len heads.old) }
     ensures none { IfNone key ((result ≡ None) × (heads.new.items ≡ heads.old.items)) }
-    ensures some { IfSome key (λ q. (result ≡ option_at heads.old.items q) × (heads.new.items ≡ slice_set heads.old.items q (Some index))) }
+    ensures some { IfSome key (λ q. (result ≡ option_at heads.old.items q) ×
+        (heads.new.items ≡ slice_set heads.old.items q (Some index))) }
 {
     match key {
         None => None,
@@ -49,7 +50,11 @@ fn put_first(heads: &mut Vec<Option<usize>>, key: Option<usize>, index: usize) -
 }
 
 /// Links the indexes of each key, in ascending order.
-pub(crate) fn chain(alloc: Global, keys: &[Option<usize>], buckets: usize) -> Result<Chains, NoMemory>
+pub(crate) fn chain(
+    alloc: Global,
+    keys: &[Option<usize>],
+    buckets: usize,
+) -> Result<Chains, NoMemory>
     requires { (i : ℕ) → i < length keys.now → IsOptionWithin (option_at keys.now i) buckets }
     ensures { IfOk result (λ c. IsLinked keys.now buckets c.heads.items c.nexts.items 0) }
 {

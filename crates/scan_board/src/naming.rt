@@ -32,4 +32,3 @@ pub(crate) fn name(alloc: Global, heads: &[Option<usize>]) -> Result<Names, NoMe
     }
     Ok(Names { index, back })
 }
-

@@ -10,7 +10,8 @@ use crate::steps::Steps;
 use std::sync::ledger::Ledger;
 use sync_command::Kind;
 
-/// Which commands of a node are blocked: all, those that leave it other than a directory, or those that leave it non-empty.
+/// Which commands of a node are blocked: all, those that leave it other than a directory, or those that leave it
+/// non-empty.
 #[derive(Clone, Copy)]
 pub enum Rule {
     All,
@@ -48,7 +49,9 @@ fn block<L: Ledger>(
     requires of_node { node_of board.old.tables command ≡ node }
     requires is_open { mark_of board.old command ≡ Mark.Open }
     requires leaves { leaves ≡ leaves_of board.old.tables command }
-    ensures same { board.new ≡ record board.old { marks = slice_set board.old.marks command Mark.Blocked; dirs = board.new.dirs } }
+    ensures same { board.new
+        ≡ record board.old { marks = slice_set board.old.marks command Mark.Blocked; dirs =
+        board.new.dirs } }
     ensures board { IsBoard board.new }
     ensures dirs { IsDirsRight board.old → IsDirsRight board.new }
     ensures steps { steps.new ≤ steps.old + 3 }
@@ -78,7 +81,8 @@ fn is_open_one(mark: Mark) -> bool
     }
 }
 
-/// Looks at a command of a node, blocks it where it is open and falls under the rule, and gives the next one of the node.
+/// Looks at a command of a node, blocks it where it is open and falls under the rule, and gives the next one of the
+/// node.
 fn block_one<L: Ledger>(
     board: &mut Board<L>,
     node: usize,
@@ -119,9 +123,12 @@ fn block_row<L: Ledger>(
     requires first { first ≡ first_of board.old.tables node }
     ensures same { board.new ≡ record board.old { marks = board.new.marks; dirs = board.new.dirs } }
     ensures board { IsBoard board.new }
-    ensures marks { (i : ℕ) → i < command_count board.old.tables → mark_of board.new i ≡ blocked_by board.old node rule i }
+    ensures marks { (i : ℕ) → i < command_count board.old.tables →
+        mark_of board.new i ≡ blocked_by board.old node rule i }
     ensures dirs { IsDirsRight board.old → IsDirsRight board.new }
-    ensures steps { steps.new + 8 * opens board.new ≤ steps.old + 8 * opens board.old + count (in_row board.old.tables node) (command_count board.old.tables) }
+    ensures steps { steps.new + 8 * opens board.new
+        ≤ steps.old + 8 * opens board.old + count (in_row board.old.tables node) (command_count
+        board.old.tables) }
 {
     let mut next = Some(first);
     while let Some(command) = next {
@@ -133,18 +140,27 @@ fn block_row<L: Ledger>(
 fn shut_one<L: Ledger>(board: &mut Board<L>, node: usize, steps: &mut Steps<L>) -> Option<usize>
     requires node_in { node < node_count board.old.tables }
     ensures lower { IsOptionWithin result node }
-    ensures same { board.new ≡ record board.old { marks = board.new.marks; dirs = board.new.dirs; shut = board.new.shut } }
+    ensures same { board.new
+        ≡ record board.old { marks = board.new.marks; dirs = board.new.dirs; shut = board.new.shut
+        } }
     ensures board { IsBoard board.new }
     ensures grows { Grows board.old board.new }
     ensures here { is_shut board.new node ≡ true }
     ensures others { (n : ℕ) → (n ≡ node → ⊥) → is_shut board.new n ≡ is_shut board.old n }
-    ensures row { is_shut board.old node ≡ false → (i : ℕ) → i < command_count board.old.tables → node_of board.old.tables i ≡ node → (leaves_of board.old.tables i ≡ Kind.Dir → ⊥) → is_open board.new i ≡ false }
-    ensures why { (i : ℕ) → i < command_count board.old.tables → (mark_of board.new i ≡ mark_of board.old i) ⊎ ((node_of board.old.tables i ≡ node) × (leaves_of board.old.tables i ≡ Kind.Dir → ⊥)) }
+    ensures row { is_shut board.old node ≡ false → (i : ℕ) → i < command_count board.old.tables →
+        node_of board.old.tables i ≡ node → (leaves_of board.old.tables i ≡ Kind.Dir → ⊥) →
+        is_open board.new i ≡ false }
+    ensures why { (i : ℕ) → i < command_count board.old.tables →
+        (mark_of board.new i ≡ mark_of board.old i) ⊎ ((node_of board.old.tables i ≡ node) ×
+        (leaves_of board.old.tables i ≡ Kind.Dir → ⊥)) }
     ensures dirs { IsDirsRight board.old → IsDirsRight board.new }
     ensures stops { is_shut board.old node ≡ true → result ≡ None }
     ensures goes { is_shut board.old node ≡ false → result ≡ parent_of board.old.tables node }
-    ensures paid { (p : ℕ) → result ≡ Some p → steps.new + 8 * opens board.new + 3 * unshut board.new ≤ steps.old + 8 * opens board.old + 3 * unshut board.old }
-    ensures steps { steps.new + 8 * opens board.new + 3 * unshut board.new ≤ steps.old + 8 * opens board.old + 3 * unshut board.old + 1 }
+    ensures paid { (p : ℕ) → result ≡ Some p →
+        steps.new + 8 * opens board.new + 3 * unshut board.new
+        ≤ steps.old + 8 * opens board.old + 3 * unshut board.old }
+    ensures steps { steps.new + 8 * opens board.new + 3 * unshut board.new
+        ≤ steps.old + 8 * opens board.old + 3 * unshut board.old + 1 }
 {
     let spot = board.spot(node, steps);
     if spot.tally.shut {
@@ -168,13 +184,18 @@ fn shut_one<L: Ledger>(board: &mut Board<L>, node: usize, steps: &mut Steps<L>) 
 fn shut_up<L: Ledger>(board: &mut Board<L>, from: Option<usize>, steps: &mut Steps<L>)
     requires board { IsBoard board.old }
     requires from_in { IsOptionWithin from (node_count board.old.tables) }
-    ensures same { board.new ≡ record board.old { marks = board.new.marks; dirs = board.new.dirs; shut = board.new.shut } }
+    ensures same { board.new
+        ≡ record board.old { marks = board.new.marks; dirs = board.new.dirs; shut = board.new.shut
+        } }
     ensures board { IsBoard board.new }
     ensures grows { Grows board.old board.new }
     ensures right { IsShutOk board.old → IsShutOk board.new }
-    ensures closed { IsShutOk board.old → (i : ℕ) → i < command_count board.old.tables → IsOnWay board.old.tables from (node_of board.old.tables i) → (leaves_of board.old.tables i ≡ Kind.Dir → ⊥) → is_open board.new i ≡ false }
+    ensures closed { IsShutOk board.old → (i : ℕ) → i < command_count board.old.tables →
+        IsOnWay board.old.tables from (node_of board.old.tables i) →
+        (leaves_of board.old.tables i ≡ Kind.Dir → ⊥) → is_open board.new i ≡ false }
     ensures walk { IsUpWalk board.old board.new from }
-    ensures steps { steps.new + 8 * opens board.new + 3 * unshut board.new ≤ steps.old + 8 * opens board.old + 3 * unshut board.old + 1 }
+    ensures steps { steps.new + 8 * opens board.new + 3 * unshut board.new
+        ≤ steps.old + 8 * opens board.old + 3 * unshut board.old + 1 }
 {
     let mut at = from;
     while let Some(node) = at {
@@ -187,14 +208,23 @@ fn cover_one<L: Ledger>(board: &mut Board<L>, child: usize, steps: &mut Steps<L>
     requires child_in { child < node_count board.old.tables }
     requires room { length board.old.pile < 4 * command_count board.old.tables }
     ensures next { result ≡ sibling_of board.old.tables child }
-    ensures same { board.new ≡ record board.old { marks = board.new.marks; dirs = board.new.dirs; pile = board.old.pile ++ child ∷ [] } }
+    ensures same { board.new
+        ≡ record board.old { marks = board.new.marks; dirs = board.new.dirs; pile = board.old.pile
+        ++ child ∷ [] } }
     ensures board { IsBoard board.new }
     ensures grows { Grows board.old board.new }
-    ensures closed { (i : ℕ) → i < command_count board.old.tables → node_of board.old.tables i ≡ child → (leaves_of board.old.tables i ≡ Kind.Empty → ⊥) → is_open board.new i ≡ false }
-    ensures others { (i : ℕ) → i < command_count board.old.tables → (node_of board.old.tables i ≡ child → ⊥) → mark_of board.new i ≡ mark_of board.old i }
-    ensures why { (i : ℕ) → i < command_count board.old.tables → (mark_of board.new i ≡ mark_of board.old i) ⊎ ((node_of board.old.tables i ≡ child) × (leaves_of board.old.tables i ≡ Kind.Empty → ⊥)) }
+    ensures closed { (i : ℕ) → i < command_count board.old.tables →
+        node_of board.old.tables i ≡ child → (leaves_of board.old.tables i ≡ Kind.Empty → ⊥) →
+        is_open board.new i ≡ false }
+    ensures others { (i : ℕ) → i < command_count board.old.tables →
+        (node_of board.old.tables i ≡ child → ⊥) → mark_of board.new i ≡ mark_of board.old i }
+    ensures why { (i : ℕ) → i < command_count board.old.tables →
+        (mark_of board.new i ≡ mark_of board.old i) ⊎ ((node_of board.old.tables i ≡ child) ×
+        (leaves_of board.old.tables i ≡ Kind.Empty → ⊥)) }
     ensures dirs { IsDirsRight board.old → IsDirsRight board.new }
-    ensures steps { steps.new + 8 * opens board.new ≤ steps.old + 8 * opens board.old + 2 + count (in_row board.old.tables child) (command_count board.old.tables) }
+    ensures steps { steps.new + 8 * opens board.new
+        ≤ steps.old + 8 * opens board.old + 2 + count (in_row board.old.tables child)
+        (command_count board.old.tables) }
 {
     let spot = board.spot(child, steps);
     block_row(board, child, spot.first, Rule::NotEmpty, steps);
@@ -214,7 +244,9 @@ fn cover_children<L: Ledger>(
     requires first_child { first_child ≡ child_of board.old.tables node }
     requires room { length board.old.pile ≤ command_count board.old.tables }
     requires within { IsWithin board.old.pile (node_count board.old.tables) }
-    ensures same { board.new ≡ record board.old { marks = board.new.marks; dirs = board.new.dirs; pile = board.new.pile } }
+    ensures same { board.new
+        ≡ record board.old { marks = board.new.marks; dirs = board.new.dirs; pile = board.new.pile
+        } }
     ensures board { IsBoard board.new }
     ensures grows { Grows board.old board.new }
     ensures within { IsWithin board.new.pile (node_count board.old.tables) }
@@ -225,9 +257,12 @@ fn cover_children<L: Ledger>(
     ensures dirs { IsDirsRight board.old → IsDirsRight board.new }
     ensures piled { IsPiled board.new node }
     ensures pile_kept { (m : ℕ) → IsIn board.old.pile m → IsIn board.new.pile m }
-    ensures pile { length board.new.pile ≤ length board.old.pile + count (is_below board.old.tables node) (command_count board.old.tables) }
+    ensures pile { length board.new.pile
+        ≤ length board.old.pile + count (is_below board.old.tables node) (command_count
+        board.old.tables) }
     ensures steps { steps.new + 8 * opens board.new + 3 * length board.new.pile
-        ≤ steps.old + 8 * opens board.old + 3 * length board.old.pile + 6 * count (is_below board.old.tables node) (command_count board.old.tables) }
+        ≤ steps.old + 8 * opens board.old + 3 * length board.old.pile + 6 * count (is_below
+        board.old.tables node) (command_count board.old.tables) }
 {
     let mut next = first_child;
     while let Some(child) = next {
@@ -240,7 +275,9 @@ fn cover<L: Ledger>(board: &mut Board<L>, node: usize, steps: &mut Steps<L>)
     requires node_in { node < node_count board.old.tables }
     requires room { length board.old.pile ≤ command_count board.old.tables }
     requires within { IsWithin board.old.pile (node_count board.old.tables) }
-    ensures same { board.new ≡ record board.old { marks = board.new.marks; dirs = board.new.dirs; bare = board.new.bare; pile = board.new.pile } }
+    ensures same { board.new
+        ≡ record board.old { marks = board.new.marks; dirs = board.new.dirs; bare = board.new.bare;
+        pile = board.new.pile } }
     ensures board { IsBoard board.new }
     ensures grows { Grows board.old board.new }
     ensures within { IsWithin board.new.pile (node_count board.old.tables) }
@@ -252,8 +289,10 @@ fn cover<L: Ledger>(board: &mut Board<L>, node: usize, steps: &mut Steps<L>)
     ensures piles { PilesBelow board.old board.new node }
     ensures dirs { IsDirsRight board.old → IsDirsRight board.new }
     ensures pile_kept { (m : ℕ) → IsIn board.old.pile m → IsIn board.new.pile m }
-    ensures pile { length board.new.pile + covered board.new ≤ length board.old.pile + covered board.old }
-    ensures steps { steps.new + 8 * opens board.new + 6 * covered board.new + 3 * length board.new.pile
+    ensures pile { length board.new.pile + covered board.new
+        ≤ length board.old.pile + covered board.old }
+    ensures steps { steps.new + 8 * opens board.new + 6 * covered board.new + 3 * length
+        board.new.pile
         ≤ steps.old + 8 * opens board.old + 6 * covered board.old + 3 * length board.old.pile + 2 }
 {
     let spot = board.spot(node, steps);
@@ -277,13 +316,18 @@ fn bare_down<L: Ledger>(board: &mut Board<L>, node: usize, steps: &mut Steps<L>)
     requires node_in { node < node_count board.old.tables }
     requires some { 0 < command_count board.old.tables }
     requires pile { board.old.pile ≡ [] }
-    ensures same { board.new ≡ record board.old { marks = board.new.marks; dirs = board.new.dirs; bare = board.new.bare } }
+    ensures same { board.new
+        ≡ record board.old { marks = board.new.marks; dirs = board.new.dirs; bare = board.new.bare
+        } }
     ensures board { IsBoard board.new }
     ensures grows { Grows board.old board.new }
     ensures walk { IsSoundDown board.old board.new node }
     ensures covered { IsCoveredDown board.old board.new }
-    ensures closed { IsDeep board.old → (i : ℕ) → i < command_count board.old.tables → IsUnderNode board.old.tables (node_of board.old.tables i) node → (leaves_of board.old.tables i ≡ Kind.Empty → ⊥) → is_open board.new i ≡ false }
-    ensures steps { steps.new + 8 * opens board.new + 6 * covered board.new ≤ steps.old + 8 * opens board.old + 6 * covered board.old + 5 }
+    ensures closed { IsDeep board.old → (i : ℕ) → i < command_count board.old.tables →
+        IsUnderNode board.old.tables (node_of board.old.tables i) node →
+        (leaves_of board.old.tables i ≡ Kind.Empty → ⊥) → is_open board.new i ≡ false }
+    ensures steps { steps.new + 8 * opens board.new + 6 * covered board.new
+        ≤ steps.old + 8 * opens board.old + 6 * covered board.old + 5 }
 {
     board.push(node, steps);
     while let Some(top) = board.pop(steps) {
@@ -300,13 +344,20 @@ fn spread_up<L: Ledger>(
 )
     requires board { IsBoard board.old }
     requires parent_in { IsOptionWithin parent (node_count board.old.tables) }
-    ensures same { board.new ≡ record board.old { marks = board.new.marks; dirs = board.new.dirs; shut = board.new.shut } }
+    ensures same { board.new
+        ≡ record board.old { marks = board.new.marks; dirs = board.new.dirs; shut = board.new.shut
+        } }
     ensures board { IsBoard board.new }
     ensures grows { Grows board.old board.new }
     ensures right { IsShutOk board.old → IsShutOk board.new }
-    ensures walk { ((leaves ≡ Kind.Empty → ⊥) × IsUpWalk board.old board.new parent) ⊎ (board.new ≡ board.old) }
-    ensures closed { (leaves ≡ Kind.Empty → ⊥) → IsShutOk board.old → (i : ℕ) → i < command_count board.old.tables → IsOnWay board.old.tables parent (node_of board.old.tables i) → (leaves_of board.old.tables i ≡ Kind.Dir → ⊥) → is_open board.new i ≡ false }
-    ensures steps { steps.new + 8 * opens board.new + 3 * unshut board.new ≤ steps.old + 8 * opens board.old + 3 * unshut board.old + 1 }
+    ensures walk { ((leaves ≡ Kind.Empty → ⊥) × IsUpWalk board.old board.new parent) ⊎
+        (board.new ≡ board.old) }
+    ensures closed { (leaves ≡ Kind.Empty → ⊥) → IsShutOk board.old → (i : ℕ) →
+        i < command_count board.old.tables →
+        IsOnWay board.old.tables parent (node_of board.old.tables i) →
+        (leaves_of board.old.tables i ≡ Kind.Dir → ⊥) → is_open board.new i ≡ false }
+    ensures steps { steps.new + 8 * opens board.new + 3 * unshut board.new
+        ≤ steps.old + 8 * opens board.old + 3 * unshut board.old + 1 }
 {
     if !is_empty(leaves) {
         shut_up(board, parent, steps);
@@ -319,13 +370,20 @@ fn spread_down<L: Ledger>(board: &mut Board<L>, leaves: Kind, node: usize, steps
     requires node_in { node < node_count board.old.tables }
     requires some { 0 < command_count board.old.tables }
     requires pile { board.old.pile ≡ [] }
-    ensures same { board.new ≡ record board.old { marks = board.new.marks; dirs = board.new.dirs; bare = board.new.bare } }
+    ensures same { board.new
+        ≡ record board.old { marks = board.new.marks; dirs = board.new.dirs; bare = board.new.bare
+        } }
     ensures board { IsBoard board.new }
     ensures grows { Grows board.old board.new }
-    ensures walk { ((leaves ≡ Kind.Dir → ⊥) × IsSoundDown board.old board.new node) ⊎ (board.new ≡ board.old) }
+    ensures walk { ((leaves ≡ Kind.Dir → ⊥) × IsSoundDown board.old board.new node) ⊎
+        (board.new ≡ board.old) }
     ensures covered { IsCoveredDown board.old board.new }
-    ensures closed { (leaves ≡ Kind.Dir → ⊥) → IsDeep board.old → (i : ℕ) → i < command_count board.old.tables → IsUnderNode board.old.tables (node_of board.old.tables i) node → (leaves_of board.old.tables i ≡ Kind.Empty → ⊥) → is_open board.new i ≡ false }
-    ensures steps { steps.new + 8 * opens board.new + 6 * covered board.new ≤ steps.old + 8 * opens board.old + 6 * covered board.old + 5 }
+    ensures closed { (leaves ≡ Kind.Dir → ⊥) → IsDeep board.old → (i : ℕ) →
+        i < command_count board.old.tables →
+        IsUnderNode board.old.tables (node_of board.old.tables i) node →
+        (leaves_of board.old.tables i ≡ Kind.Empty → ⊥) → is_open board.new i ≡ false }
+    ensures steps { steps.new + 8 * opens board.new + 6 * covered board.new
+        ≤ steps.old + 8 * opens board.old + 6 * covered board.old + 5 }
 {
     if !is_dir(leaves) {
         bare_down(board, node, steps);
@@ -353,7 +411,9 @@ fn take<L: Ledger>(
     ensures own { mark_of board.new command ≡ Mark.Taken }
     ensures others { (i : ℕ) → i < command_count board.old.tables → (i ≡ command → ⊥) →
         (mark_of board.new i ≡ mark_of board.old i) ⊎ ((mark_of board.old i ≡ Mark.Open) × (mark_of board.new i ≡ Mark.Blocked)) }
-    ensures complete { IsDeep board.old → IsShutOk board.old → (j : ℕ) → j < command_count board.old.tables → Clash board.old.tables command j → is_open board.new j ≡ false }
+    ensures complete { IsDeep board.old → IsShutOk board.old → (j : ℕ) →
+        j < command_count board.old.tables → Clash board.old.tables command j →
+        is_open board.new j ≡ false }
     ensures right { IsShutOk board.old → IsShutOk board.new }
     ensures settled { IsMade board.old.tables → IsSettled board.old → IsSettled board.new }
     ensures steps { steps.new + credit board.new ≤ steps.old + credit board.old }
@@ -365,7 +425,9 @@ fn take<L: Ledger>(
     spread_down(board, leaves, node, steps);
 }
 
-/// The turn of a command.
+/// The turn of the drawn command at a place of a log's net set, on a settled board: an open command is taken, and what
+/// can't stand beside it is blocked; at any other command nothing changes. The board is settled again, and the steps are
+/// at most two more than the credit falls by. Takes no memory.
 pub fn turn<L: Ledger>(board: &mut Board<L>, log: u32, place: usize, steps: &mut Steps<L>)
     requires place { IsTrue (is_some (number_at board.old.tables log place)) }
     requires made { IsMade board.old.tables }
@@ -373,7 +435,8 @@ pub fn turn<L: Ledger>(board: &mut Board<L>, log: u32, place: usize, steps: &mut
     ensures board { IsBoard board.new }
     ensures settled { IsSettled board.new }
     ensures tables { board.new.tables ≡ board.old.tables }
-    ensures kept { (i : ℕ) → i < command_count board.old.tables → (mark_of board.old i ≡ Mark.Open → ⊥) → mark_of board.new i ≡ mark_of board.old i }
+    ensures kept { (i : ℕ) → i < command_count board.old.tables →
+        (mark_of board.old i ≡ Mark.Open → ⊥) → mark_of board.new i ≡ mark_of board.old i }
     ensures others { (own i : ℕ) → number_at board.old.tables log place ≡ Some own →
         i < command_count board.old.tables → (i ≡ own → ⊥) →
         mark_of board.new i ≡ Mark.Taken → mark_of board.old i ≡ Mark.Taken }

@@ -6,9 +6,12 @@ use Rattle.scan_board.proofs.building.keys_of.Goals as goal
 
 pub node_at-node-requires : goal.node_at-node-requires
 node_at-node-requires c =
-    let low : c.numbers.number < length c.args.numbers.now.picks.items = omega (arith, c.numbers-test.true, c.len-number-end.ensures, c.args.numbers.now.picks.ok.0) in
-    (c.args.joint.now.nodes, c.args.joint.now.sets, subst (AreAllNodesOf c.args.joint.now.nodes c.args.joint.now.sets) (sym c.deref.ensures.value) c.in_ok-nodes.ensures,
-    pick_is_one c.args.joint.now.sets c.args.numbers.now.picks.items c.requires.least c.numbers.number c.index-pick.result.now (slice_get_read c.args.numbers.now.picks.items (length c.args.numbers.now.picks.items) c.numbers.number c.index-pick.result.now refl low c.index-pick.ensures))
+    let low : c.numbers.number < length c.args.numbers.now.picks.items = omega (arith, c.numbers-test.true, c.len-number-end.ensures, c.args.numbers.now.picks.ok.0) in (
+      c.args.joint.now.nodes,
+      c.args.joint.now.sets,
+      subst (AreAllNodesOf c.args.joint.now.nodes c.args.joint.now.sets) (sym c.deref.ensures.value) c.in_ok-nodes.ensures,
+      pick_is_one c.args.joint.now.sets c.args.numbers.now.picks.items c.requires.least c.numbers.number c.index-pick.result.now (slice_get_read c.args.numbers.now.picks.items (length c.args.numbers.now.picks.items) c.numbers.number c.index-pick.result.now refl low c.index-pick.ensures),
+    )
 
 pub numbers-preserved : goal.numbers-preserved
 numbers-preserved c =

@@ -20,12 +20,13 @@ numbers-preserved c =
     let low : c.numbers.number - 1 < length c.args.numbers.now.picks.items = omega (arith, c.numbers.invariant.0, c.requires.many, c.numbers-test.true) in
     let here = slice_get_read c.args.numbers.now.picks.items (length c.args.numbers.now.picks.items) (c.numbers.number - 1) c.index-pick.result.now refl low c.index-pick.ensures in
     let own = c.requires.least (c.numbers.number - 1) c.index-pick.result.now here in
-    let next : c.numbers.number ≡ suc (c.numbers.number - 1) = omega (arith, c.numbers-test.true) in
-    (omega (arith, c.numbers.invariant.0),
-    taken_next c.args.joint.now.sets c.args.numbers.now.picks.items c.args.cards.now (c.numbers.number - 1) c.numbers.commands.items c.add_taken.new.commands.items
-        (taken_cards c.args.joint.now.sets c.args.numbers.now.picks.items c.args.cards.now (length c.args.cards.now)) own.0
-        (subst (λ (n : ℕ). c.numbers.commands.items ++ taken_cards c.args.joint.now.sets c.args.numbers.now.picks.items c.args.cards.now n ≡ taken_cards c.args.joint.now.sets c.args.numbers.now.picks.items c.args.cards.now (length c.args.cards.now)) next c.numbers.invariant.1)
-        (ap (option_and_then (command_of c.args.joint.now.sets)) here ∙ own.1) (c.in_ok-add_taken.ensures own.0 own.1))
+    let next : c.numbers.number ≡ suc (c.numbers.number - 1) = omega (arith, c.numbers-test.true) in (
+      omega (arith, c.numbers.invariant.0),
+      taken_next c.args.joint.now.sets c.args.numbers.now.picks.items c.args.cards.now (c.numbers.number - 1) c.numbers.commands.items c.add_taken.new.commands.items
+          (taken_cards c.args.joint.now.sets c.args.numbers.now.picks.items c.args.cards.now (length c.args.cards.now)) own.0
+          (subst (λ (n : ℕ). c.numbers.commands.items ++ taken_cards c.args.joint.now.sets c.args.numbers.now.picks.items c.args.cards.now n ≡ taken_cards c.args.joint.now.sets c.args.numbers.now.picks.items c.args.cards.now (length c.args.cards.now)) next c.numbers.invariant.1)
+          (ap (option_and_then (command_of c.args.joint.now.sets)) here ∙ own.1) (c.in_ok-add_taken.ensures own.0 own.1),
+    )
 
 pub returns : goal.returns
 returns c =

@@ -5,10 +5,13 @@ use Rattle.scan_board.proofs.Written.{tallied, board_tallied}
 use Rattle.scan_board.proofs.board.Board.tally.Goals as goal
 
 pub invariant_of-self : goal.invariant_of-self
-invariant_of-self g c = (board_tallied (state_of c.self.inside.numbers c.self.inside.cards.items c.self.inside.spots.items c.self.inside.pile.items)
-    (state_of c.self.inside.numbers c.self.inside.cards.items (slice_set c.self.inside.spots.items c.args.node (record { starts = c.index.result.now.starts; parent = c.index.result.now.parent; first_child = c.index.result.now.first_child; next_child = c.index.result.now.next_child; first = c.index.result.now.first; tally = c.args.value })) c.self.inside.pile.items)
-    c.args.node c.args.value c.self.invariant.0
-    (tallied c.self.inside.numbers c.self.inside.cards.items c.self.inside.spots.items c.self.inside.pile.items c.args.node c.index.result.now c.args.value c.index.ensures), c.self.invariant.1)
+invariant_of-self g c = (
+  board_tallied (state_of c.self.inside.numbers c.self.inside.cards.items c.self.inside.spots.items c.self.inside.pile.items)
+      (state_of c.self.inside.numbers c.self.inside.cards.items (slice_set c.self.inside.spots.items c.args.node (record { starts = c.index.result.now.starts; parent = c.index.result.now.parent; first_child = c.index.result.now.first_child; next_child = c.index.result.now.next_child; first = c.index.result.now.first; tally = c.args.value })) c.self.inside.pile.items)
+      c.args.node c.args.value c.self.invariant.0
+      (tallied c.self.inside.numbers c.self.inside.cards.items c.self.inside.spots.items c.self.inside.pile.items c.args.node c.index.result.now c.args.value c.index.ensures),
+  c.self.invariant.1,
+)
 
 pub returns-clause-written : goal.returns-clause-written
 returns-clause-written g c = tallied c.self.inside.numbers c.self.inside.cards.items c.self.inside.spots.items c.self.inside.pile.items c.args.node c.index.result.now c.args.value c.index.ensures
