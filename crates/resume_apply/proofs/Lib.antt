@@ -1,0 +1,6 @@
+pub mod ApplyLaws
+pub mod Looking
+pub mod Resuming
+pub mod Stepping
+pub mod Walking
+pub mod WholeWalk

@@ -1,0 +1,4 @@
+pub mod Ready
+pub mod Faults
+pub mod Finishing
+pub mod Preparing
