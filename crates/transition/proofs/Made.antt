@@ -16,14 +16,9 @@ use Rattle.refluent.specs.FirstDisagreements.{log_at}
 use Rattle.refluent.specs.Joints.{Joined, IsJoint, StandsForAll}
 use Rattle.refluent.proofs.CallerLemmas.{in_from_at, drawn_is, set_is}
 use Rattle.transition.specs.Transitions.{transition, FitsCommonTrees}
-use Rattle.transition.proofs.TransitionLaws.{difference_by, transition_by, transition_fits, one_each-transition}
+use Rattle.transition.proofs.TransitionLaws.{canonical_same, difference_by, transition_by, transition_fits, one_each-transition}
 use Rattle.transition.proofs.Parting.{parts, one_each-parts, parts_at}
 use Rattle.transition.proofs.Nets.{drawn_net, net_change}
-
--- sets with one command per node and the same at each have one canonical list
-canonical_same : (cs ds : List Change) → one_each cs ≡ true → one_each ds ≡ true → ((p : Node) → command_at cs p ≡ command_at ds p) → canonical cs ≡ canonical ds
-canonical_same cs ds first second same = canonical_unique (canonical cs) (canonical ds) (is_canonical-canonical cs first) (is_canonical-canonical ds second) (one_each-canonical cs first) (one_each-canonical ds second)
-    (λ p. command_at-canonical cs first p ∙ same p ∙ sym (command_at-canonical ds second p))
 
 module _ (j : Joined) (i : ℕ) (set merger : List Change) (at_log : slice_get j.sets i ≡ Some set) (drawn : IsSubset merger (drawn_of j.sets)) (fits : FitsCommonTrees j merger) where
   module _ (logs : List (List Change)) (m : Store) (stands : StandsForAll j logs) (common : IsCommonTree m logs) where

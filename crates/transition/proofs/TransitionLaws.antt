@@ -8,7 +8,10 @@ use Rattle.sync_command.specs.Values.{same_value}
 use Rattle.sync_command.specs.Changes.{Change}
 use Rattle.sync_command.specs.Trees.{Holding, command_at, new_or, after, one_each, Fits}
 use Rattle.sync_command.specs.Maps.{Store, at}
+use Rattle.sync_command.proofs.CallerLemmas.{canonical_unique}
 use Rattle.canon_set.specs.Logs.{names, net}
+use Rattle.canon_set.specs.Sets.{canonical}
+use Rattle.canon_set.proofs.CallerLemmas.{command_at-canonical, is_canonical-canonical, one_each-canonical}
 use Rattle.refluent.specs.Sets.{IsSubset}
 use Rattle.refluent.specs.CommonTrees.{IsAmong, AllChange, IsCommonTree}
 use Rattle.refluent.specs.Drawn.{drawn_commands}
@@ -36,6 +39,11 @@ pub transition_at : (t : Holding) (ns ms : List Change) (p : Node) →
     command_at (transition t ns ms) p ≡ if (names ns p || names ms p) && not (same_value (after ns t p) (after ms t p)) then Some (change_between (after ns t) (after ms t) p) else None
 transition_at t ns ms p = command_at-differences (after ns t) (after ms t) (nodes_of ns ++ nodes_of ms) p
     ∙ ap (λ b. if b && not (same_value (after ns t p) (after ms t p)) then Some (change_between (after ns t) (after ms t) p) else None) (listed ns ms p)
+
+-- sets with one command per node and the same at each have one canonical list
+pub canonical_same : (cs ds : List Change) → one_each cs ≡ true → one_each ds ≡ true → ((p : Node) → command_at cs p ≡ command_at ds p) → canonical cs ≡ canonical ds
+canonical_same cs ds first second same = canonical_unique (canonical cs) (canonical ds) (is_canonical-canonical cs first) (is_canonical-canonical ds second) (one_each-canonical cs first) (one_each-canonical ds second)
+    (λ p. command_at-canonical cs first p ∙ same p ∙ sym (command_at-canonical ds second p))
 
 -- what a transition has at a node, by the commands of the two sets there
 abbrev pub difference_by : Holding → Node → Option Change → Option Change → Option Change
@@ -108,3 +116,8 @@ law_of_each_tree logs change m n first second log among ms part = same_transitio
         go : (o : Option Change) → command_at cs p ≡ o → is_some o ≡ true → at m p ≡ at n p
         go None f e = cc (e)
         go (Some c) f e = old_held (at m) logs (common_holding logs change m first) cs within p c f ∙ sym (old_held (at n) logs (common_holding logs change n second) cs within p c f)
+
+-- two mergers with the same command at each node make one transition
+pub canonical_merger : (t : Holding) (ns ms ls : List Change) → ((p : Node) → command_at ms p ≡ command_at ls p) → canonical (transition t ns ms) ≡ canonical (transition t ns ls)
+canonical_merger t ns ms ls same = canonical_same (transition t ns ms) (transition t ns ls) (one_each-transition t ns ms) (one_each-transition t ns ls)
+    (λ p. transition_by t ns ms p ∙ ap (difference_by t p (command_at ns p)) (same p) ∙ sym (transition_by t ns ls p))
