@@ -1,5 +1,5 @@
 -- When a tree with one value changed is a tree again.
-use Rattle.std.proofs.Common.{◌≡◌, Bool, true, false, Some, Option, refl, sym, ap, ◌∙◌}
+use Rattle.std.proofs.Common.{◌≡◌, Bool, true, false, Some, refl, sym, ap, ◌∙◌}
 use Rattle.sync_path.specs.Paths.{Node, parent, same_path}
 use Rattle.sync_path.proofs.CallerLemmas.{parent_apart, same_path_at, same_path_is}
 use Rattle.sync_command.proofs.CallerLemmas.{put_apart, put_here}

@@ -1,6 +1,6 @@
 -- What the loops of a check keep.
-use Rattle.std.proofs.Common.{◌≡◌, ℕ, zero, suc, ◌+◌, ◌-◌, ◌<◌, ◌≤◌, Bool, true, false, not, List, [], ◌∷◌, ◌++◌, length, length-append, Option, Some, None, refl, sym, ap, subst, ◌∙◌, arith, ◌⊎◌, inl, inr}
-use Rattle.std.specs.Prelude.{slice_set, replicate, if◌then◌else◌}
+use Rattle.std.proofs.Common.{◌≡◌, ℕ, zero, suc, ◌+◌, ◌-◌, ◌<◌, ◌≤◌, Bool, true, false, List, [], ◌∷◌, ◌++◌, length, length-append, Option, Some, None, refl, sym, ap, subst, ◌∙◌, arith, ◌⊎◌, inl, inr}
+use Rattle.std.specs.Prelude.{slice_set, replicate}
 use Rattle.std.proofs.Common.{get_or}
 use Rattle.std.specs.List.{slice_get}
 use Rattle.std.proofs.lemmas.Bool.{cases_lt}
@@ -9,28 +9,23 @@ use Rattle.sync_path.specs.Paths.{Node}
 use Rattle.sync_command.specs.declared.values.Value.{Value}
 use Rattle.sync_command.specs.declared.commands.Row.{Row}
 use Rattle.sync_command.specs.Changes.{Change}
-use Rattle.sync_command.specs.Trees.{command_at, one_each}
+use Rattle.sync_command.specs.Trees.{one_each}
 use Rattle.canon_set.specs.Logs.{net}
 use Rattle.canon_set.proofs.CallerLemmas.{one_each-canonical}
-use Rattle.refluent.specs.Sets.{is_in}
-use Rattle.refluent.specs.Drawn.{in_turn}
 use Rattle.refluent.specs.Families.{NonePasses, IsFirstPlace}
 use Rattle.refluent.specs.Joints.{Joined, IsJoint, path_at, value_at, net_sets}
-use Rattle.refluent.proofs.CallerLemmas.{in_from_at, at_from_in}
 use Rattle.pref_list.specs.Ranking.{set_from, set_of}
-use Rattle.pref_list.specs.Picks.{first_with}
 use Rattle.pref_list.specs.Numbers.{IsNodeAt, AreNodesOf}
-use Rattle.pref_list.proofs.CallerLemmas.{one_each-net, in_from_place, path_within, set_at_number, set_of_next, last_or, set_or, set_here, set_other}
+use Rattle.pref_list.proofs.CallerLemmas.{one_each-net, path_within, set_at_number, last_or, set_or}
 use Rattle.merge_core.specs.declared.checking.After.{After}
 use Rattle.merge_core.specs.Parents.{AreParentsOf}
 use Rattle.merge_core.specs.Verdicts.{IsBefore, IsFirstCommand}
-use Rattle.merge_core.specs.Afterwards.{IsLeastLog, IsAfter, AreFilled, HasFullChild, IsAddable, IsPlaceOf, is_full_in, marked, can_add}
-use Rattle.merge_core.proofs.DrawnNodes.{IsStanding, standing, in_turn_from}
+use Rattle.merge_core.specs.Afterwards.{IsAfter, AreFilled, HasFullChild, IsAddable, IsPlaceOf, is_full_in, marked, can_add}
 
 some_is : {X : Type 0} {x y : X} → Some x ≡ Some y → x ≡ y
 some_is e = cc
 
--- ---- the least log
+-- ---- the net sets
 
 one_each-sets : (logs : List (List Change)) (k : ℕ) → one_each (set_from (net_sets logs) k) ≡ true
 one_each-sets [] k = refl
@@ -44,67 +39,10 @@ one_each-set sets logs (suc k) e = ap (λ s. one_each (set_from s k)) e ∙ one_
 pub one_each-log : (j : Joined) → IsJoint j → (k : ℕ) → one_each (set_of j.sets k) ≡ true
 one_each-log j is k = one_each-set j.sets is.logs k is.stands.sets
 
-pub has_some : (set : List Change) (c own : Change) (r : Bool) → one_each set ≡ true → command_at set c.node ≡ Some own → (r ≡ true → own ≡ c) × (own ≡ c → r ≡ true) → r ≡ is_in set c
-has_some set c own r one at same = go r refl (is_in set c) refl
-  where
-    go : (a : Bool) → r ≡ a → (b : Bool) → is_in set c ≡ b → a ≡ b
-    go true e true f = refl
-    go false e false f = refl
-    go true e false f = let is : is_in set c ≡ true = in_from_at set c.node c (at ∙ ap Some (same.0 e)) in cc (is, f)
-    go false e true f = let is : r ≡ true = same.1 (some_is (sym at ∙ at_from_in set one c f)) in cc (is, e)
-
-pub has_none : (set : List Change) (c : Change) → one_each set ≡ true → command_at set c.node ≡ None → false ≡ is_in set c
-has_none set c one at = go (is_in set c) refl
-  where
-    go : (b : Bool) → is_in set c ≡ b → false ≡ b
-    go false e = refl
-    go true e = let f = at_from_in set one c e in cc (f, at)
-
-module _ (j : Joined) (is : IsJoint j) (log : ℕ) (set : List Change) (c : Change) where
-  pub has_at : (own : Change) (r : Bool) → set_of j.sets log ≡ set → (p : Node) → p ≡ c.node → command_at set p ≡ Some own → (r ≡ true → own ≡ c) × (own ≡ c → r ≡ true) → r ≡ is_in (set_of j.sets log) c
-  has_at own r e p node at same = has_some set c own r (ap one_each (sym e) ∙ one_each-log j is log) (ap (command_at set) (sym node) ∙ at) same ∙ ap (λ s. is_in s c) (sym e)
-
-  pub has_not : set_of j.sets log ≡ set → (p : Node) → p ≡ c.node → command_at set p ≡ None → false ≡ is_in (set_of j.sets log) c
-  has_not e p node at = has_none set c (ap one_each (sym e) ∙ one_each-log j is log) (ap (command_at set) (sym node) ∙ at) ∙ ap (λ s. is_in s c) (sym e)
-
--- none of the first so many sets has the command
-abbrev pub NoneHas : List (List Change) → Change → ℕ → Type 0
-NoneHas sets c n = (k : ℕ) → k < n → is_in (set_from sets k) c ≡ false
-
-pub none_more : (sets : List (List Change)) (c : Change) (n : ℕ) → NoneHas sets c n → is_in (set_of sets (n + 1)) c ≡ false → NoneHas sets c (n + 1)
-none_more sets c n none out k low = go (cases_lt k n)
-  where
-    go : (k < n) ⊎ (n ≤ k) → is_in (set_from sets k) c ≡ false
-    go (inl l) = none k l
-    go (inr l) = let same : k ≡ n = omega arith in ap (λ m. is_in (set_from sets m) c) same ∙ ap (λ s. is_in s c) (sym (set_of_next sets n)) ∙ out
-
-first_is : (sets : List (List Change)) (c : Change) (k : ℕ) → is_in (set_from sets k) c ≡ true → NoneHas sets c k → first_with sets c ≡ k
-first_is [] c k has none = cc (has)
-first_is (set ∷ sets) c zero has none = ap (λ b. if b then zero else suc (first_with sets c)) has
-first_is (set ∷ sets) c (suc k) has none = ap (λ b. if b then zero else suc (first_with sets c)) (none zero (omega arith)) ∙ ap suc (first_is sets c k has (λ m low. none (suc m) (omega arith)))
-
-pub least_some : (sets : List (List Change)) (c : Change) (n : ℕ) → NoneHas sets c n → is_in (set_of sets (n + 1)) c ≡ true → IsLeastLog sets c (Some (n + 1))
-least_some sets c n none has =
-    let here : is_in (set_from sets n) c ≡ true = ap (λ s. is_in s c) (sym (set_of_next sets n)) ∙ has in
-    let first = first_is sets c n here none in
-    (in_turn_from sets n c here, (let e : n + 1 ≡ suc n = omega arith in e) ∙ ap suc (sym first))
-
 set_low : (sets : List (List Change)) (k i : ℕ) (c : Change) → slice_get (set_from sets k) i ≡ Some c → k < length sets
 set_low [] k i c e = cc (e)
 set_low (set ∷ sets) zero i c e = omega arith
 set_low (set ∷ sets) (suc k) i c e = let l = set_low sets k i c e in omega (arith, l)
-
-pub least_none : (sets : List (List Change)) (c : Change) (n : ℕ) → length sets ≤ n → NoneHas sets c n → IsLeastLog sets c None
-least_none sets c n all none = go (is_in (in_turn sets) c) refl
-  where
-    go : (b : Bool) → is_in (in_turn sets) c ≡ b → b ≡ false
-    go false e = refl
-    go true e =
-        let s = standing sets c e in
-        let low = set_low sets s.set s.place c s.there in
-        let in' : is_in (set_from sets s.set) c ≡ true = in_from_place (set_from sets s.set) s.place c s.there in
-        let out : is_in (set_from sets s.set) c ≡ false = none s.set (omega (arith, low, all)) in
-        cc (in', out)
 
 -- ---- nodes after a set
 

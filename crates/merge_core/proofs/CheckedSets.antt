@@ -1,33 +1,32 @@
 -- What the tables of a check say of a drawn set: where it does not fit, and what can be added.
-use Rattle.std.proofs.Common.{◌≡◌, ℕ, ◌<◌, ◌≤◌, Bool, true, false, not, ◌&&◌, ◌||◌, List, [], ◌∷◌, length, Option, Some, None, refl, sym, ap, subst, ◌∙◌, arith, ◌⊎◌, inl, inr}
+use Rattle.std.proofs.Common.{◌≡◌, ℕ, ◌<◌, ◌≤◌, Bool, true, false, not, ◌&&◌, ◌||◌, List, ◌∷◌, length, Option, Some, None, refl, sym, ap, subst, ◌∙◌, arith, ◌⊎◌, inl, inr}
 use Rattle.std.specs.Prelude.{is_none, is_some, if◌then◌else◌}
 use Rattle.std.specs.List.{slice_get}
 use Rattle.std.specs.Option.{option_map}
-use Rattle.std.proofs.lemmas.Bool.{cases_Bool, cases_lt}
+use Rattle.std.proofs.lemmas.Bool.{cases_lt}
 use Rattle.std.proofs.lemmas.Option.{slice_get_within}
 use Rattle.sync_path.specs.Paths.{Node, parent, same_path, comes_before}
 use Rattle.sync_path.proofs.CallerLemmas.{both, before_asym, before_irrefl}
-use Rattle.sync_command.specs.declared.values.Value.{Value}
 use Rattle.sync_command.specs.Values.{is_empty, is_dir}
 use Rattle.sync_command.specs.Changes.{Change}
-use Rattle.sync_command.specs.Trees.{Holding, IsTree, IsApplicable, command_at, new_or, after, one_each, put, Fits}
-use Rattle.sync_command.specs.Maps.{Store, at}
+use Rattle.sync_command.specs.Trees.{Holding, IsTree, command_at, new_or, after, one_each, put, Fits}
+use Rattle.sync_command.specs.Maps.{at}
 use Rattle.sync_command.proofs.CallerLemmas.{command_at-node, same_tree}
 use Rattle.refluent.specs.Sets.{is_in, IsSubset}
-use Rattle.refluent.specs.CommonTrees.{IsCommonTree, least_common_tree}
+use Rattle.refluent.specs.CommonTrees.{least_common_tree}
 use Rattle.refluent.specs.Drawn.{drawn_commands}
 use Rattle.refluent.specs.Families.{IsFirstPlace}
 use Rattle.refluent.specs.Joints.{Joined, StandsForAll, concerns, path_at}
 use Rattle.refluent.specs.Picks.{IsParentPlace}
-use Rattle.refluent.proofs.CallerLemmas.{IsCommon, IsDrawn, common_holding, least_law, drawn_known, old_held, add_fits, at_from_in, in_from_at, has_node}
+use Rattle.refluent.proofs.CallerLemmas.{IsCommon, common_holding, least_law, drawn_known, old_held, add_fits, at_from_in, in_from_at, has_node}
 use Rattle.pref_list.specs.Numbers.{IsNodeAt}
 use Rattle.pref_list.proofs.CallerLemmas.{rising_at}
 use Rattle.merge_core.specs.declared.checking.After.{After}
 use Rattle.merge_core.specs.Parents.{AreParentsOf}
 use Rattle.merge_core.specs.Verdicts.{IsMisfit, IsFirstMisfit, CanBeAdded}
-use Rattle.merge_core.specs.Afterwards.{IsAfter, AreAfter, AreFilled, HasFullChild, IsAddable, is_dir_in, is_full_in, is_named_in, flag_of, is_bare, is_misfit, can_add}
-use Rattle.merge_core.proofs.ChangedTrees.{IsBelowDir, HoldsChild, not_both, put_tree, below_from_put, none_from_put}
-use Rattle.merge_core.proofs.DrawnNodes.{RowAt, row_at, some_at, drawn_node, first_at, unconcerned}
+use Rattle.merge_core.specs.Afterwards.{AreAfter, AreFilled, HasFullChild, IsAddable, is_dir_in, is_full_in, is_named_in, flag_of, is_bare, is_misfit, can_add}
+use Rattle.merge_core.proofs.ChangedTrees.{HoldsChild, not_both, put_tree, below_from_put, none_from_put}
+use Rattle.merge_core.proofs.DrawnNodes.{row_at, some_at, drawn_node, first_at, unconcerned}
 
 turned : (a b : Bool) → a ≡ not b → b ≡ false → a ≡ true
 turned a b e f = grind arith

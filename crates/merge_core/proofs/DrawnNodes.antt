@@ -1,5 +1,5 @@
 -- The nodes of drawn commands, and what a node holds that no log concerns.
-use Rattle.std.proofs.Common.{◌≡◌, ℕ, zero, suc, ◌<◌, Bool, true, false, ◌||◌, List, [], ◌∷◌, length, Option, Some, None, refl, sym, ap, subst, ◌∙◌, arith, ◌⊎◌, inl, inr}
+use Rattle.std.proofs.Common.{◌≡◌, ℕ, zero, suc, ◌<◌, Bool, true, false, ◌||◌, List, [], ◌∷◌, length, Option, Some, None, refl, sym, ap, ◌∙◌, arith, ◌⊎◌, inl, inr}
 use Rattle.std.specs.Prelude.{if◌then◌else◌}
 use Rattle.std.specs.List.{slice_get, list_any}
 use Rattle.std.specs.Option.{option_map}
@@ -14,10 +14,10 @@ use Rattle.refluent.specs.Sets.{is_in}
 use Rattle.refluent.specs.CommonTrees.{IsAmong, least_common_tree}
 use Rattle.refluent.specs.Drawn.{drawn_commands, in_turn}
 use Rattle.refluent.specs.Joints.{Joined, StandsForAll, IsJoint, concerns, path_at, value_at}
-use Rattle.refluent.proofs.CallerLemmas.{drawn_is, is_in-append, is_in-without_repeats, node_is, has_node, untouched_law}
+use Rattle.refluent.proofs.CallerLemmas.{drawn_is, is_in-append, is_in-without_repeats, node_is, untouched_law}
 use Rattle.pref_list.specs.Ranking.{set_from}
 use Rattle.pref_list.specs.Numbers.{IsNodeAt}
-use Rattle.pref_list.proofs.CallerLemmas.{named, place_from_in, in_from_place}
+use Rattle.pref_list.proofs.CallerLemmas.{named, place_from_in}
 
 cases_or : (a b : Bool) → (a || b) ≡ true → (a ≡ true) ⊎ (b ≡ true)
 cases_or true b e = inl refl

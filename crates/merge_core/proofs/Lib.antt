@@ -15,6 +15,7 @@ pub mod ChangedTrees
 pub mod DrawnNodes
 pub mod CheckedSets
 pub mod CheckLoops
+pub mod NetPicks
 pub mod VerdictLaws
 pub mod RuleSteps
 pub mod DrawnBoards
@@ -28,3 +29,5 @@ pub mod JointBoards
 pub mod RankedBoards
 pub mod ScannedBoards
 pub mod TakenSets
+pub mod SteeringTexts
+pub mod CallerLemmas

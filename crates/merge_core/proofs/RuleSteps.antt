@@ -1,25 +1,22 @@
 -- The rules that steer, one by one.
-use Rattle.std.proofs.Common.{◌≡◌, ℕ, ◌+◌, ◌<◌, Bool, true, false, List, [], ◌∷◌, ◌++◌, length, get_or, take, map, Option, Some, None, IsSome, refl, sym, ap, ◌∙◌, arith}
+use Rattle.std.proofs.Common.{◌≡◌, ℕ, ◌+◌, ◌<◌, true, List, [], ◌∷◌, ◌++◌, length, get_or, take, Option, Some, None, IsSome, refl, sym, ap, ◌∙◌}
 use Rattle.std.proofs.lemmas.List.{map-append, take_more}
 use Rattle.std.proofs.lemmas.Option.{slice_get-get_or}
 use Rattle.sync_path.specs.Paths.{Node}
 use Rattle.sync_command.specs.Changes.{Change, is_canonical}
 use Rattle.sync_command.specs.Trees.{one_each}
-use Rattle.sync_command.specs.Maps.{Store, at}
 use Rattle.sync_command.proofs.CallerLemmas.{canonical_unique}
 use Rattle.canon_set.specs.Sets.{canonical}
 use Rattle.canon_set.proofs.CallerLemmas.{command_at-canonical, one_each-canonical, is_canonical-canonical}
 use Rattle.refluent.specs.Sets.{is_in, IsSubset}
-use Rattle.refluent.specs.Drawn.{drawn_commands, in_turn}
-use Rattle.refluent.specs.Mergers.{IsMerger}
-use Rattle.refluent.specs.CommonTrees.{IsCommonTree}
-use Rattle.refluent.specs.Joints.{Joined, IsJoint, StandsForAll, net_sets}
+use Rattle.refluent.specs.Drawn.{in_turn}
+use Rattle.refluent.specs.Joints.{Joined, IsJoint, StandsForAll}
 use Rattle.refluent.proofs.CallerLemmas.{least_law}
 use Rattle.pref_list.specs.declared.rules.Rule.{Rule}
 use Rattle.pref_list.specs.declared.rules.Rule.TheVariants.{At}
 use Rattle.pref_list.specs.Picks.{log_of}
 use Rattle.pref_list.proofs.CallerLemmas.{in_from_place}
-use Rattle.merge_core.specs.Steering.{at_rule, at_rules, steering_rules, AreSteeringRules}
+use Rattle.merge_core.specs.Steering.{at_rule, at_rules, AreSteeringRules}
 use Rattle.merge_core.specs.Afterwards.{IsLeastLog}
 use Rattle.merge_core.specs.Verdicts.{IsVerdictOf}
 use Rattle.merge_core.specs.declared.checking.Verdict.TheVariants.{Merger}

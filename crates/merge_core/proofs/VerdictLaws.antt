@@ -1,5 +1,5 @@
 -- The verdict on a set, by what the tables of a check say.
-use Rattle.std.proofs.Common.{◌≡◌, ℕ, zero, suc, ◌<◌, ◌≤◌, Bool, true, false, not, ◌||◌, List, [], ◌∷◌, length, Option, Some, None, refl, sym, ap, subst, ◌∙◌, arith, ◌⊎◌, inl, inr}
+use Rattle.std.proofs.Common.{◌≡◌, ℕ, zero, suc, Bool, true, false, not, ◌||◌, List, [], ◌∷◌, length, Option, Some, None, refl, sym, ap, subst, ◌∙◌}
 use Rattle.std.specs.Prelude.{find}
 use Rattle.std.specs.List.{slice_get}
 use Rattle.std.proofs.lemmas.Option.{slice_get_within}
@@ -19,7 +19,7 @@ use Rattle.pref_list.specs.Numbers.{IsPick}
 use Rattle.pref_list.proofs.CallerLemmas.{in_from_place}
 use Rattle.merge_core.specs.declared.checking.After.{After}
 use Rattle.merge_core.specs.Parents.{AreParentsOf}
-use Rattle.merge_core.specs.Verdicts.{is_undrawn, CanBeAdded, IsBefore, IsFirstCommand}
+use Rattle.merge_core.specs.Verdicts.{is_undrawn, CanBeAdded, IsFirstCommand}
 use Rattle.merge_core.specs.Afterwards.{AreAfter, AreFilled, IsAddable, IsFirstPick, is_misfit}
 use Rattle.merge_core.proofs.DrawnNodes.{IsStanding, drawn_in_turn, drawn_standing, in_turn_from}
 use Rattle.merge_core.proofs.CheckLoops.{set_of_low}

@@ -1,5 +1,5 @@
 -- Whether a set is a merger, and if not, why.
-use Rattle.std.specs.Prelude.{◌≡◌, ◌<◌, ◌⊎◌, ℕ, Bool, true, false, not, List, ◌∷◌, find, slice_get, Option, Some, None}
+use Rattle.std.specs.Prelude.{◌≡◌, ◌<◌, ◌⊎◌, ℕ, Bool, false, not, List, ◌∷◌, find, slice_get, Some}
 use Rattle.sync_path.specs.Paths.{Node, parent, comes_before}
 use Rattle.sync_command.specs.Values.{is_empty, is_dir}
 use Rattle.sync_command.specs.Changes.{Change}

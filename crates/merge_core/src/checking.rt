@@ -9,6 +9,7 @@ ghost use Rattle.sync_command.specs.Changes.{Change};
 ghost use Rattle.refluent.specs.Sets.{is_in};
 ghost use Rattle.refluent.specs.Drawn.{in_turn};
 ghost use Rattle.refluent.specs.Families.{IsFirstPlace};
+ghost use Rattle.refluent.specs.Picks.{net_commands};
 ghost use Rattle.refluent.specs.Joints.{IsJoint, path_at, value_at};
 ghost use Rattle.pref_list.specs.Ranking.{set_of};
 ghost use Rattle.pref_list.specs.Numbers.{AreNodesOf, AreAllNodesOf};
@@ -18,7 +19,7 @@ ghost use Rattle.merge_core.specs.Afterwards.{IsLeastLog, IsAfter, AreAfter, Are
 
 use crate::parents::parents_of;
 use canon_set::CanonSet;
-use pref_list::{command_at, nodes_of};
+use pref_list::{command_at, find_node, nodes_of};
 use refluent::{Joint, Pick};
 use std::alloc::Global;
 use sync_command::Command;
@@ -45,29 +46,30 @@ pub(crate) struct After {
     dir: bool,
 }
 
-/// Whether the net set of a log has the command.
-fn has_command(joint: &Joint, log: u32, command: &Command) -> bool
-    requires { (0 < log) × (log ≤ length joint.now.sets) }
-    ensures { result ≡ is_in (set_of joint.now.sets log) command.now }
+/// The log of the first pick of the command among the net commands that name its node.
+fn first_log(joint: &Joint, picks: &[Pick], command: &Command) -> Option<u32>
+    requires { picks.now ≡ net_commands joint.now.sets command.now.node }
+    ensures { IsLeastLog joint.now.sets command.now result }
 {
     let _logs = joint.logs();
-    match joint.set(log).at(command.path()) {
-        Some(own) => own.same(command),
-        None => false,
+    'picks: for at in 0..picks.len() {
+        let pick = picks[at];
+        if command_at(joint, pick).same(command) {
+            return Some(pick.log);
+        }
     }
+    None
 }
 
 /// The least log that has the command.
 pub(crate) fn log_of(joint: &Joint, command: &Command) -> Option<u32>
     ensures { IsLeastLog joint.now.sets command.now result }
 {
-    let count = joint.logs();
-    'logs: for log in 0..count {
-        if has_command(joint, log + 1, command) {
-            return Some(log + 1);
-        }
+    let _logs = joint.logs();
+    match find_node(joint, command.path()) {
+        Some(place) => first_log(joint, joint.commands(place), command),
+        None => None,
     }
-    None
 }
 
 /// Whether some log has the command.

@@ -1,6 +1,9 @@
 //! Laws of mergers.
 
-ghost use Rattle.std.specs.Prelude.{◌≡◌, ◌↔◌, List, [], ◌∷◌, IsTrue, false};
+ghost use Rattle.std.specs.Prelude.{◌≡◌, ◌≤◌, ◌↔◌, List, [], ◌∷◌, length, IsTrue, false, Ok};
+ghost use Rattle.sync_path.specs.Paths.{IsPath, parts};
+ghost use Rattle.log_text.specs.declared.frame.TheConstants.{MAX_ITEMS};
+ghost use Rattle.refluent.specs.declared.joint.TheConstants.{MAX_LOGS};
 ghost use Rattle.std.specs.List.{list_any};
 ghost use Rattle.sync_command.specs.Changes.{Change};
 ghost use Rattle.sync_command.specs.Trees.{one_each, Fits};
@@ -14,6 +17,7 @@ ghost use Rattle.scan_board.specs.Tables.{State};
 ghost use Rattle.scan_board.specs.Boards.{IsNew};
 ghost use Rattle.merge_core.specs.Boards.{IsSettledOf};
 ghost use Rattle.pref_list.specs.declared.rules.Rule.{Rule};
+ghost use Rattle.pref_list.specs.Prefs.{IsPrefs, prefs_of, prefs_text};
 ghost use Rattle.pref_list.specs.Ranking.{ranking};
 ghost use Rattle.merge_core.specs.Steering.{steering_rules};
 ghost use Rattle.refluent.specs.Mergers.{IsMerger};
@@ -49,6 +53,19 @@ pub fn steered_merger_is_first()
     ensures { (logs : List (List Change)) → AllChange logs → (m : Store) → IsCommonTree m logs →
         (ms : List Change) → IsMerger (at m) (drawn_commands logs) ms →
         IsFirstMerger (at m) (drawn_commands logs) (ranking logs (steering_rules logs ms)) ms }
+{}
+
+/// The rules that steer to a drawn set of at most 2^20 commands of at most 64 logs are a preference list, and their text
+/// is read back.
+pub fn steering_rules_are_a_preference_list()
+    ensures limits { (logs : List (List Change)) (set : List Change) → length logs ≤ MAX_LOGS →
+        IsTrue (one_each set) → IsSubset set (drawn_commands logs) → length set ≤ MAX_ITEMS →
+        ((c : Change) → IsTrue (is_in set c) → IsPath c.node) →
+        IsPrefs (steering_rules logs set) }
+    ensures read { (logs : List (List Change)) (set : List Change) → length logs ≤ MAX_LOGS →
+        IsTrue (one_each set) → IsSubset set (drawn_commands logs) → length set ≤ MAX_ITEMS →
+        ((c : Change) → IsTrue (is_in set c) → IsPath c.node) →
+        prefs_of (parts 10 (prefs_text (steering_rules logs set))) ≡ Ok (steering_rules logs set) }
 {}
 
 /// The scan of the ranking that takes each command in no conflict with one taken before gives the first merger.

@@ -1,6 +1,6 @@
 //! The nodes of the net commands of joined logs.
 
-ghost use Rattle.std.specs.Prelude.{◌≡◌, ◌<◌, ◌≤◌, true, length, slice_get, Some, IfOk, ℕ};
+ghost use Rattle.std.specs.Prelude.{◌≡◌, ◌<◌, ◌≤◌, true, length, slice_get, Some, IfOk, IfSome, IfNone, ℕ};
 ghost use Rattle.sync_command.specs.Changes.{is_canonical};
 ghost use Rattle.refluent.specs.Joints.{path_at, is_ascending};
 ghost use Rattle.pref_list.specs.Ranking.{set_of};
@@ -12,23 +12,32 @@ use std::cmp::Ordering;
 use sync_command::Command;
 use sync_path::{NoMemory, Path};
 
-/// The place of a path that is one of the joint's nodes, by halving.
-pub fn place_of(joint: &Joint, path: &Path) -> usize
-    requires rising { is_ascending joint.now.nodes ≡ true }
-    requires there { (place : ℕ) × IsNodeAt joint.now.nodes place path.now }
-    ensures { IsNodeAt joint.now.nodes result path.now }
+/// The place of a path among the joint's nodes, by halving; `None` exactly where it is none of them. Takes no memory.
+pub fn find_node(joint: &Joint, path: &Path) -> Option<usize>
+    requires { is_ascending joint.now.nodes ≡ true }
+    ensures some { IfSome result (λ place. IsNodeAt joint.now.nodes place path.now) }
+    ensures none { IfNone result ((place : ℕ) → IsNodeAt joint.now.nodes place path.now → ⊥) }
 {
     let mut low = 0;
     let mut high = joint.nodes();
     'halving: while low < high {
         let middle = low + (high - low) / 2;
         match joint.node(middle).cmp(path) {
-            Ordering::Equal => return middle,
+            Ordering::Equal => return Some(middle),
             Ordering::Less => low = middle + 1,
             Ordering::Greater => high = middle,
         }
     }
-    low
+    None
+}
+
+/// The place of a path that is one of the joint's nodes. Takes no memory.
+pub fn place_of(joint: &Joint, path: &Path) -> usize
+    requires rising { is_ascending joint.now.nodes ≡ true }
+    requires there { (place : ℕ) × IsNodeAt joint.now.nodes place path.now }
+    ensures { IsNodeAt joint.now.nodes result path.now }
+{
+    find_node(joint, path).unwrap()
 }
 
 /// The places of the nodes that the commands name.

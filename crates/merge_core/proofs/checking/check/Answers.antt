@@ -1,10 +1,10 @@
-use Rattle.std.proofs.Common.{◌≡◌, true, not, List, Option, ℕ, length, None, Some, refl, arith, ap, sym, subst, ◌∙◌}
+use Rattle.std.proofs.Common.{not, Some, ap, sym, subst, ◌∙◌}
 use Rattle.std.specs.Prelude.{find}
 use Rattle.std.specs.Option.{option_copied}
 use Rattle.refluent.specs.Sets.{is_in}
 use Rattle.refluent.specs.Drawn.{in_turn}
 use Rattle.merge_core.specs.Parents.{AreParentsOf}
-use Rattle.merge_core.specs.Afterwards.{AreAfter, AreFilled}
+use Rattle.merge_core.specs.Afterwards.{AreAfter}
 use Rattle.merge_core.proofs.CheckedSets.{first_misfit_is}
 use Rattle.merge_core.proofs.VerdictLaws.{undrawn_is, all_drawn, same_node, set_fits, first_addable_is, merger_is, pick_of}
 use Rattle.merge_core.proofs.checking.check.Goals as goal

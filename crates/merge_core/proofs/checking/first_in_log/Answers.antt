@@ -1,4 +1,4 @@
-use Rattle.std.proofs.Common.{arith, ap, sym, ◌∙◌, length, ◌<◌}
+use Rattle.std.proofs.Common.{arith, ap, sym, ◌∙◌, length}
 use Rattle.std.proofs.lemmas.Option.{slice_get-get_or}
 use Rattle.pref_list.specs.Ranking.{set_of}
 use Rattle.merge_core.proofs.CheckLoops.{commands_are, there_at, node_low, can_here, cannot_here}

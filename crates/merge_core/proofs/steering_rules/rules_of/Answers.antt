@@ -1,5 +1,4 @@
-use Rattle.std.proofs.Common.{◌∙◌}
-use Rattle.merge_core.proofs.RuleSteps.{has_log, least_is, rule_more}
+use Rattle.merge_core.proofs.RuleSteps.{has_log}
 use Rattle.merge_core.proofs.steering_rules.rules_of.Goals as goal
 
 pub unwrap-log-requires : goal.unwrap-log-requires

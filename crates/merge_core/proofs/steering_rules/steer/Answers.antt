@@ -1,4 +1,4 @@
-use Rattle.std.proofs.Common.{◌≡◌, ◌∙◌, subst}
+use Rattle.std.proofs.Common.{subst}
 use Rattle.merge_core.specs.Verdicts.{IsVerdictOf}
 use Rattle.merge_core.proofs.RuleSteps.{merger_within, steers}
 use Rattle.merge_core.proofs.steering_rules.steer.Goals as goal

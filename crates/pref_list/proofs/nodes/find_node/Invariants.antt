@@ -1,6 +1,6 @@
 use Rattle.std.proofs.Common.{◌-◌}
 use Rattle.pref_list.proofs.Places.{IsBetween}
-use Rattle.pref_list.proofs.nodes.place_of.Given as goal
+use Rattle.pref_list.proofs.nodes.find_node.Given as goal
 
 abbrev pub invariant-halving : goal.invariant-halving
 invariant-halving l = IsBetween l.joint.nodes l.path l.low l.high
