@@ -50,8 +50,11 @@ fn block<L: Ledger>(
     requires is_open { mark_of board.old command ≡ Mark.Open }
     requires leaves { leaves ≡ leaves_of board.old.tables command }
     ensures same { board.new
-        ≡ record board.old { marks = slice_set board.old.marks command Mark.Blocked; dirs =
-        board.new.dirs } }
+        ≡ record board.old {
+          marks = slice_set board.old.marks command Mark.Blocked;
+          dirs =
+              board.new.dirs;
+        } }
     ensures board { IsBoard board.new }
     ensures dirs { IsDirsRight board.old → IsDirsRight board.new }
     ensures steps { steps.new ≤ steps.old + 3 }
@@ -141,7 +144,10 @@ fn shut_one<L: Ledger>(board: &mut Board<L>, node: usize, steps: &mut Steps<L>) 
     requires node_in { node < node_count board.old.tables }
     ensures lower { IsOptionWithin result node }
     ensures same { board.new
-        ≡ record board.old { marks = board.new.marks; dirs = board.new.dirs; shut = board.new.shut
+        ≡ record board.old {
+          marks = board.new.marks;
+          dirs = board.new.dirs;
+          shut = board.new.shut;
         } }
     ensures board { IsBoard board.new }
     ensures grows { Grows board.old board.new }
@@ -185,7 +191,10 @@ fn shut_up<L: Ledger>(board: &mut Board<L>, from: Option<usize>, steps: &mut Ste
     requires board { IsBoard board.old }
     requires from_in { IsOptionWithin from (node_count board.old.tables) }
     ensures same { board.new
-        ≡ record board.old { marks = board.new.marks; dirs = board.new.dirs; shut = board.new.shut
+        ≡ record board.old {
+          marks = board.new.marks;
+          dirs = board.new.dirs;
+          shut = board.new.shut;
         } }
     ensures board { IsBoard board.new }
     ensures grows { Grows board.old board.new }
@@ -209,8 +218,12 @@ fn cover_one<L: Ledger>(board: &mut Board<L>, child: usize, steps: &mut Steps<L>
     requires room { length board.old.pile < 4 * command_count board.old.tables }
     ensures next { result ≡ sibling_of board.old.tables child }
     ensures same { board.new
-        ≡ record board.old { marks = board.new.marks; dirs = board.new.dirs; pile = board.old.pile
-        ++ child ∷ [] } }
+        ≡ record board.old {
+          marks = board.new.marks;
+          dirs = board.new.dirs;
+          pile = board.old.pile
+              ++ child ∷ [];
+        } }
     ensures board { IsBoard board.new }
     ensures grows { Grows board.old board.new }
     ensures closed { (i : ℕ) → i < command_count board.old.tables →
@@ -245,7 +258,10 @@ fn cover_children<L: Ledger>(
     requires room { length board.old.pile ≤ command_count board.old.tables }
     requires within { IsWithin board.old.pile (node_count board.old.tables) }
     ensures same { board.new
-        ≡ record board.old { marks = board.new.marks; dirs = board.new.dirs; pile = board.new.pile
+        ≡ record board.old {
+          marks = board.new.marks;
+          dirs = board.new.dirs;
+          pile = board.new.pile;
         } }
     ensures board { IsBoard board.new }
     ensures grows { Grows board.old board.new }
@@ -276,8 +292,12 @@ fn cover<L: Ledger>(board: &mut Board<L>, node: usize, steps: &mut Steps<L>)
     requires room { length board.old.pile ≤ command_count board.old.tables }
     requires within { IsWithin board.old.pile (node_count board.old.tables) }
     ensures same { board.new
-        ≡ record board.old { marks = board.new.marks; dirs = board.new.dirs; bare = board.new.bare;
-        pile = board.new.pile } }
+        ≡ record board.old {
+          marks = board.new.marks;
+          dirs = board.new.dirs;
+          bare = board.new.bare;
+          pile = board.new.pile;
+        } }
     ensures board { IsBoard board.new }
     ensures grows { Grows board.old board.new }
     ensures within { IsWithin board.new.pile (node_count board.old.tables) }
@@ -317,7 +337,10 @@ fn bare_down<L: Ledger>(board: &mut Board<L>, node: usize, steps: &mut Steps<L>)
     requires some { 0 < command_count board.old.tables }
     requires pile { board.old.pile ≡ [] }
     ensures same { board.new
-        ≡ record board.old { marks = board.new.marks; dirs = board.new.dirs; bare = board.new.bare
+        ≡ record board.old {
+          marks = board.new.marks;
+          dirs = board.new.dirs;
+          bare = board.new.bare;
         } }
     ensures board { IsBoard board.new }
     ensures grows { Grows board.old board.new }
@@ -345,7 +368,10 @@ fn spread_up<L: Ledger>(
     requires board { IsBoard board.old }
     requires parent_in { IsOptionWithin parent (node_count board.old.tables) }
     ensures same { board.new
-        ≡ record board.old { marks = board.new.marks; dirs = board.new.dirs; shut = board.new.shut
+        ≡ record board.old {
+          marks = board.new.marks;
+          dirs = board.new.dirs;
+          shut = board.new.shut;
         } }
     ensures board { IsBoard board.new }
     ensures grows { Grows board.old board.new }
@@ -371,7 +397,10 @@ fn spread_down<L: Ledger>(board: &mut Board<L>, leaves: Kind, node: usize, steps
     requires some { 0 < command_count board.old.tables }
     requires pile { board.old.pile ≡ [] }
     ensures same { board.new
-        ≡ record board.old { marks = board.new.marks; dirs = board.new.dirs; bare = board.new.bare
+        ≡ record board.old {
+          marks = board.new.marks;
+          dirs = board.new.dirs;
+          bare = board.new.bare;
         } }
     ensures board { IsBoard board.new }
     ensures grows { Grows board.old board.new }
