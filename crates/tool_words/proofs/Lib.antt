@@ -4,3 +4,4 @@ pub mod TwoOperands
 pub mod Places
 pub mod InPlace
 pub mod Table
+pub mod Numbered

@@ -1,7 +1,7 @@
 -- The table of commands, entry by entry.
 use Rattle.std.proofs.Common.{◌≡◌, ◌∙◌, ◌<◌, ◌++◌, ◌+◌, refl, sym, ap, List, ℕ, suc, [], ◌∷◌, Option, Some, None, cond, length, map, drop, get_or, drop-cons, arith}
 use Rattle.std.specs.Str.{bytes_eq}
-use Rattle.tool_words.specs.Words.{Text}
+use Rattle.tool_words.specs.Words.{Text, places_of}
 use Rattle.tool_words.specs.Commands.{shape_of, verb_in}
 use Rattle.tool_words.specs.Help.{help_line, help_lines}
 use Rattle.tool_words.specs.Trees.{asked_folders, folder_places}
@@ -33,4 +33,4 @@ no_folders None = refl
 no_folders (Some job) = refl
 
 pub no_places : (words : List Text) → folder_places words ≡ []
-no_places words = ap (map (λ folder. folder.place)) (no_folders (job_of words))
+no_places words = ap places_of (no_folders (job_of words))

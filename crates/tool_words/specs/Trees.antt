@@ -1,6 +1,6 @@
 -- Which words of a job name folders.
-use Rattle.std.specs.Prelude.{List, ℕ, ◌∷◌, [], Option, Some, None, map}
-use Rattle.tool_words.specs.Words.{Text, Operand}
+use Rattle.std.specs.Prelude.{List, ℕ, [], Option, Some, None}
+use Rattle.tool_words.specs.Words.{Text, Operand, places_of}
 use Rattle.tool_words.specs.Jobs.{job_of}
 use Rattle.tool_words.specs.declared.job.Job.{Job}
 
@@ -15,9 +15,4 @@ asked_folders (Some job) = job_folders job
 
 -- the places of the words that name folders
 abbrev pub folder_places : List Text → List ℕ
-folder_places words = map (λ folder. folder.place) (asked_folders (job_of words))
-
--- the first of the places, and 0 where there is none
-abbrev pub first_place : List ℕ → ℕ
-first_place [] = 0
-first_place (place ∷ places) = place
+folder_places words = places_of (asked_folders (job_of words))

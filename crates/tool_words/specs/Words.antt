@@ -22,6 +22,15 @@ abbrev pub numbered : ℕ → List Text → List Operand
 numbered place [] = []
 numbered place (word ∷ words) = record { text = word; place = place } ∷ numbered (suc place) words
 
+-- the places of operands
+abbrev pub places_of : List Operand → List ℕ
+places_of operands = map (λ operand. operand.place) operands
+
+-- the first of places, and 0 where there is none
+abbrev pub first_place : List ℕ → ℕ
+first_place [] = 0
+first_place (place ∷ places) = place
+
 -- the words that follow the command's name
 abbrev pub after_name : List Text → List Operand
 after_name words = drop 1 (numbered 0 words)

@@ -6,6 +6,7 @@
 #![tactic(auto)]
 
 mod commands;
+mod file_list;
 mod job;
 pub mod laws;
 mod operands;
@@ -14,6 +15,7 @@ pub mod texts;
 mod trees;
 
 pub use self::commands::help;
+pub use self::file_list::FileList;
 pub use self::job::{Job, Word, WordFault};
 pub use self::read::read_words;
 pub use self::trees::{first_tree_word, trees_wanted};

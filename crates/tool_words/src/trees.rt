@@ -1,8 +1,8 @@
 //! The words that name folders.
 
 ghost use Rattle.std.specs.Prelude.{◌≡◌, ◌+◌, length};
-ghost use Rattle.tool_words.specs.Words.{texts_of};
-ghost use Rattle.tool_words.specs.Trees.{folder_places, first_place};
+ghost use Rattle.tool_words.specs.Words.{texts_of, first_place};
+ghost use Rattle.tool_words.specs.Trees.{folder_places};
 
 use std::ops::Range;
 

@@ -1,0 +1,59 @@
+//! The operands at the end of the words, as a list that borrows the words and copies nothing.
+
+ghost use Rattle.std.specs.Prelude.{◌≡◌, ◌<◌, ◌≤◌, ◌+◌, Some, length, drop, option_map, slice_get};
+ghost use Rattle.tool_words.specs.Words.{texts_of, numbered, places_of, first_place};
+
+use std::marker::Model;
+
+/// The operands from one word on to the last: each a word, with the place of that word.
+#[derive(Debug, Drop)]
+pub struct FileList<'a> {
+    words: &'a [String],
+    first: usize,
+}
+
+impl<'a> Model for FileList<'a> {
+    ghost use Rattle.std.specs.Prelude.{List, ◌≤◌, length, drop};
+    ghost use Rattle.tool_words.specs.Words.{Operand, numbered, texts_of};
+
+    ghost Value = { List Operand };
+
+    ghost view = { λ l. drop l.first (numbered 0 (texts_of l.words.now)) };
+
+    ghost invariant = { λ l. l.first ≤ length l.words.now };
+}
+
+impl<'a> FileList<'a> {
+    /// The operands from the word at place `first` on.
+    pub(crate) fn new(words: &'a [String], first: usize) -> FileList<'a>
+        requires { first ≤ length words.now }
+        ensures { result ≡ drop first (numbered 0 (texts_of words.entry.now)) }
+    {
+        FileList { words, first }
+    }
+
+    /// How many operands there are.
+    pub fn len(&self) -> usize
+        ensures { result ≡ length self.now }
+    {
+        self.words.len() - self.first
+    }
+
+    /// The text of an operand, counted from 0; it takes no memory.
+    pub fn name(&self, at: usize) -> &str
+        requires { at < length self.now }
+        ensures { option_map (λ operand. operand.text) (slice_get self.now at) ≡ Some result.now }
+    {
+        self.words[self.first + at].as_str()
+    }
+
+    /// The place of an operand's word, from 0, which is the command's. The words of the operands
+    /// follow one another.
+    pub fn place(&self, at: usize) -> usize
+        requires { at < length self.now }
+        ensures operand { option_map (λ operand. operand.place) (slice_get self.now at) ≡ Some result }
+        ensures follows { result ≡ first_place (places_of self.now) + at }
+    {
+        self.first + at
+    }
+}
