@@ -1,46 +1,135 @@
--- Each operand of a job is the word at its place.
-use Rattle.std.proofs.Common.{Bool, true, false, refl, List, [], ◌∷◌, Option, Some, None, cond, option_map, option_and_then}
+-- Each operand of a job has the text of the word at its place.
+use Rattle.std.proofs.Common.{◌≡◌, ◌∙◌, Bool, true, false, refl, sym, ap, subst, ℕ, zero, suc, List, [], ◌∷◌, ◌++◌, Option, Some, None, cond, is_some, length, drop, true≢false, option_map, option_and_then}
+use Rattle.std.specs.Option.{option_to_list}
 use Rattle.std.specs.List.{list_all}
-use Rattle.tool_words.specs.Words.{Text, Operand, numbered, is_plain, plain_of, only_of, pair_of}
+use Rattle.clap.proofs.WalkLemmas.{both}
+use Rattle.tool_words.specs.Words.{Text, Operand, operand_at, numbered, is_plain, plain_of, only_of, pair_of}
+use Rattle.tool_words.specs.Logs.{Parts, is_log_count, logs_of, first_and_logs, parts_of}
 use Rattle.tool_words.specs.Commands.{commands, verb_in}
 use Rattle.tool_words.specs.Jobs.{is_help, job_of, command_job, operands_job}
-use Rattle.tool_words.specs.Operands.{AreInPlace, operands_in}
+use Rattle.tool_words.specs.Operands.{AreInPlace, operands_in, operand_text, text_at, word_at}
 use Rattle.tool_words.specs.declared.commands.Verb.{Verb}
 use Rattle.tool_words.specs.declared.commands.Verb.TheVariants as verb
-use Rattle.tool_words.specs.declared.job.Job.TheVariants.{Help, Replay, Canon}
+use Rattle.tool_words.specs.declared.job.Job.TheVariants.{Help, Replay, Canon, Merge, Steer}
+use Rattle.tool_words.proofs.Places.{numbered_plain}
+use Rattle.tool_words.proofs.Walks.{is_not}
+use Rattle.tool_words.proofs.PrefsOption.{IsPlainFile, Opening, Parted, equals, parted, placed, plain, skipped, spelled, word}
 
--- what holds of operands and of none holds of those that are plain
-of_plain : (operands : List Operand) (P : Option (List Operand) → Type 0) → P (Some operands) → P None → P (plain_of operands)
-of_plain operands P some none = by (list_all (λ operand. is_plain operand.text) operands)
+-- ---- plain words
+
+-- the text of a plain word is the word
+plain_text : (w : Text) → is_plain w ≡ true → operand_text w ≡ w
+plain_text [] e = refl
+plain_text (x ∷ xs) e = rw (is_not _ e) refl
+
+-- what stands at the place of the first of the words from one on
+first_from : (all : List Text) (place : ℕ) (w : Text) (rest : List Text) → drop place all ≡ w ∷ rest → (word_at all place ≡ w) × (drop (suc place) all ≡ rest)
+first_from [] zero w rest e = absurd (cc)
+first_from (v ∷ all) zero w rest e = (ap (λ l. word_at l 0) e, ap (drop 1) e)
+first_from [] (suc place) w rest e = absurd (cc)
+first_from (v ∷ all) (suc place) w rest e = first_from all place w rest e
+
+-- plain words from one on are in place
+from_place : (all : List Text) (place : ℕ) (words : List Text) → drop place all ≡ words → list_all is_plain words ≡ true → AreInPlace all (numbered place words)
+from_place all place [] is each = tt
+from_place all place (w ∷ words) is each =
+    let p = both _ _ each in
+    let f = first_from all place w words is in
+    (ap operand_text f.0 ∙ plain_text w p.0, from_place all (suc place) words f.1 p.1)
+
+-- what holds of plain operands and of none
+of_plain : (words : List Text) (P : Option (List Operand) → Type 0) → (list_all is_plain words ≡ true → P (Some (numbered 1 words))) → P None → P (plain_of (numbered 1 words))
+of_plain words P some none = by (list_all (λ operand. is_plain operand.text) (numbered 1 words)) refl
+  where
+    by : (b : Bool) → list_all (λ operand. is_plain operand.text) (numbered 1 words) ≡ b → P (cond b (Some (numbered 1 words)) None)
+    by true is = some (sym (numbered_plain 1 words) ∙ is)
+    by false is = none
+
+-- what holds of logs and of none
+of_logs : (operands : List Operand) (P : Option (List Operand) → Type 0) → P (Some operands) → P None → P (logs_of operands)
+of_logs operands P some none = by (is_log_count (length operands))
   where
     by : (b : Bool) → P (cond b (Some operands) None)
     by true = some
     by false = none
 
+-- ---- the option
+
+none_is : {A : Type 0} (o : Option A) → is_some o ≡ false → o ≡ None
+none_is None e = refl
+none_is (Some a) e = absurd (true≢false e)
+
+-- what holds of the parts of words and of none
+of_parts : (words : List Text) (P : Option Parts → Type 0) → ((p : Parted words) → P (Some (placed p.opening, numbered (suc (skipped p.opening)) p.rest))) → P None
+    → P (parts_of (numbered 1 words))
+of_parts words P some none = by (is_some (parts_of (numbered 1 words))) refl
+  where
+    by : (b : Bool) → is_some (parts_of (numbered 1 words)) ≡ b → P (parts_of (numbered 1 words))
+    by true e = let p = parted words e in subst P (sym p.is) (some p)
+    by false e = subst P (sym (none_is _ e)) none
+
+-- the operands that follow the option
+rest_in_place : (name : Text) (o : Opening) (rest words : List Text) → spelled o rest ≡ words → list_all is_plain rest ≡ true
+    → AreInPlace (name ∷ words) (numbered (suc (skipped o)) rest)
+rest_in_place name plain rest words is all = from_place (name ∷ words) 1 rest (sym is) all
+rest_in_place name (equals file) rest words is all = from_place (name ∷ words) 2 rest (ap (drop 1) (sym is)) all
+rest_in_place name (word file) rest words is all = from_place (name ∷ words) 3 rest (ap (drop 2) (sym is)) all
+
+-- and its file before them
+file_in_place : (name : Text) (o : Opening) (rest words : List Text) (operands : List Operand) → spelled o rest ≡ words → IsPlainFile o
+    → AreInPlace (name ∷ words) operands → AreInPlace (name ∷ words) (option_to_list (placed o) ++ operands)
+file_in_place name plain rest words operands is h after = after
+file_in_place name (equals file) rest words operands is h after = (ap (λ w. text_at (name ∷ w) 1) (sym is), after)
+file_in_place name (word file) rest words operands is h after = (ap (λ w. text_at (name ∷ w) 2) (sym is) ∙ plain_text file h, after)
+
+-- ---- each command
+
 replay_in_place : (name : Text) (words : List Text) → AreInPlace (name ∷ words) (operands_in (operands_job verb.Replay (numbered 1 words)))
 replay_in_place name words =
-    of_plain (numbered 1 words) (λ plain. AreInPlace (name ∷ words) (operands_in (option_map (λ pair. Replay pair.0 pair.1) (option_and_then pair_of plain)))) (pair words) tt
+    of_plain words (λ them. AreInPlace (name ∷ words) (operands_in (option_map (λ pair. Replay pair.0 pair.1) (option_and_then pair_of them)))) (pair words) tt
   where
-    pair : (words : List Text) → AreInPlace (name ∷ words) (operands_in (option_map (λ pair. Replay pair.0 pair.1) (pair_of (numbered 1 words))))
-    pair [] = tt
-    pair (a ∷ []) = tt
-    pair (a ∷ b ∷ []) = (refl, (refl, tt))
-    pair (a ∷ b ∷ c ∷ rest) = tt
+    pair : (words : List Text) → list_all is_plain words ≡ true
+        → AreInPlace (name ∷ words) (operands_in (option_map (λ pair. Replay pair.0 pair.1) (pair_of (numbered 1 words))))
+    pair [] all = tt
+    pair (a ∷ []) all = tt
+    pair (a ∷ b ∷ []) all = from_place (name ∷ a ∷ b ∷ []) 1 (a ∷ b ∷ []) refl all
+    pair (a ∷ b ∷ c ∷ rest) all = tt
 
 canon_in_place : (name : Text) (words : List Text) → AreInPlace (name ∷ words) (operands_in (operands_job verb.Canon (numbered 1 words)))
 canon_in_place name words =
-    of_plain (numbered 1 words) (λ plain. AreInPlace (name ∷ words) (operands_in (option_map Canon (option_and_then only_of plain)))) (only words) tt
+    of_plain words (λ them. AreInPlace (name ∷ words) (operands_in (option_map Canon (option_and_then only_of them)))) (only words) tt
   where
-    only : (words : List Text) → AreInPlace (name ∷ words) (operands_in (option_map Canon (only_of (numbered 1 words))))
-    only [] = tt
-    only (a ∷ []) = (refl, tt)
-    only (a ∷ b ∷ rest) = tt
+    only : (words : List Text) → list_all is_plain words ≡ true → AreInPlace (name ∷ words) (operands_in (option_map Canon (only_of (numbered 1 words))))
+    only [] all = tt
+    only (a ∷ []) all = from_place (name ∷ a ∷ []) 1 (a ∷ []) refl all
+    only (a ∷ b ∷ rest) all = tt
+
+merge_in_place : (name : Text) (words : List Text) → AreInPlace (name ∷ words) (operands_in (operands_job verb.Merge (numbered 1 words)))
+merge_in_place name words =
+    of_parts words
+    (λ parts. AreInPlace (name ∷ words) (operands_in (option_map (λ (p : Parts). Merge p.0 p.1) (option_and_then (λ (p : Parts). option_map (λ logs. (p.0, logs)) (logs_of p.1)) parts))))
+    (λ p. of_logs (numbered (suc (skipped p.opening)) p.rest)
+    (λ logs. AreInPlace (name ∷ words) (operands_in (option_map (λ (p : Parts). Merge p.0 p.1) (option_map (λ logs. (placed p.opening, logs)) logs))))
+    (file_in_place name p.opening p.rest words _ p.spelt p.file (rest_in_place name p.opening p.rest words p.spelt p.all)) tt) tt
+
+steer_in_place : (name : Text) (words : List Text) → AreInPlace (name ∷ words) (operands_in (operands_job verb.Steer (numbered 1 words)))
+steer_in_place name words =
+    of_plain words (λ them. AreInPlace (name ∷ words) (operands_in (option_map (λ pair. Steer pair.0 pair.1) (option_and_then first_and_logs them)))) (first words) tt
+  where
+    first : (words : List Text) → list_all is_plain words ≡ true
+        → AreInPlace (name ∷ words) (operands_in (option_map (λ pair. Steer pair.0 pair.1) (first_and_logs (numbered 1 words))))
+    first [] all = tt
+    first (a ∷ rest) all =
+        of_logs (numbered 2 rest) (λ logs. AreInPlace (name ∷ a ∷ rest) (operands_in (option_map (λ (pair : Operand × List Operand). Steer pair.0 pair.1) (option_map (λ logs. (operand_at 1 a, logs)) logs))))
+        (from_place (name ∷ a ∷ rest) 1 (a ∷ rest) refl all) tt
 
 in_place : (verb : Option Verb) (name : Text) (words : List Text)
     → AreInPlace (name ∷ words) (operands_in (option_and_then (λ verb. operands_job verb (numbered 1 words)) verb))
 in_place None name words = tt
 in_place (Some verb.Replay) name words = replay_in_place name words
 in_place (Some verb.Canon) name words = canon_in_place name words
+in_place (Some verb.Merge) name words = merge_in_place name words
+in_place (Some verb.Steer) name words = steer_in_place name words
 
 command_in_place : (words : List Text) → AreInPlace words (operands_in (command_job (numbered 0 words)))
 command_in_place [] = tt

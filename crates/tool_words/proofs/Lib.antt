@@ -1,4 +1,9 @@
 pub mod Walks
+pub mod Repeats
+pub mod PrefsOption
+pub mod LogPlaces
+pub mod LogOperands
+pub mod FirstAndLogs
 pub mod OneOperand
 pub mod TwoOperands
 pub mod Places

@@ -1,9 +1,10 @@
 -- Operands by their places.
-use Rattle.std.proofs.Common.{◌≡◌, ◌∙◌, ◌<◌, ◌+◌, ◌-◌, refl, sym, ap, List, ℕ, zero, suc, [], ◌∷◌, Some, length, drop, get_or, option_map, string_bytes, length-drop, arith}
+use Rattle.std.proofs.Common.{◌≡◌, ◌∙◌, ◌<◌, ◌≤◌, ◌+◌, ◌-◌, refl, sym, ap, List, ℕ, zero, suc, [], ◌∷◌, Some, length, drop, get_or, option_map, string_bytes, length-drop, arith}
 use Rattle.std.specs.List.{slice_get}
 use Rattle.std.proofs.lemmas.List.{length-map}
 use Rattle.std.specs.declared.alloc.Global.{Global}
 use Rattle.std.specs.declared.string.String.{String}
+use Rattle.tool_words.specs.Operands.{operand_text, text_at, word_at}
 use Rattle.tool_words.specs.Words.{Text, Operand, numbered, places_of, first_place, texts_of}
 
 -- the operand of a text and a place
@@ -11,7 +12,7 @@ abbrev operand : Text → ℕ → Operand
 operand text place = record { text = text; place = place }
 
 -- there are as many operands as words
-numbered_length : (place : ℕ) (words : List Text) → length (numbered place words) ≡ length words
+pub numbered_length : (place : ℕ) (words : List Text) → length (numbered place words) ≡ length words
 numbered_length place [] = refl
 numbered_length place (word ∷ words) = ap suc (numbered_length (suc place) words)
 
@@ -73,3 +74,25 @@ pub file_within : (first : ℕ) (words : List (String Global)) (at : ℕ) (opera
 file_within first words at operands is h =
     let e : length operands ≡ length words - first = sym (ap length is) ∙ rest_length first words in
     omega (arith, e, h)
+
+-- the operands from one on are the words from there on
+pub numbered_from : (first place : ℕ) (words : List Text) → drop first (numbered place words) ≡ numbered (place + first) (drop first words)
+numbered_from zero place words = ap (λ n. numbered n words) (let e : place ≡ place + 0 = omega arith in e)
+numbered_from (suc first) place [] = refl
+numbered_from (suc first) place (word ∷ words) =
+    numbered_from first (suc place) words ∙ ap (λ n. numbered n (drop first words)) (let e : suc place + first ≡ place + suc first = omega arith in e)
+
+-- ---- the word at a place
+
+word_from : (words : List (String Global)) (place : ℕ) (d : String Global) → place < length words → string_bytes (get_or words place d) ≡ word_at (texts_of words) place
+word_from [] place d h = absurd (omega arith)
+word_from (word ∷ words) zero d h = refl
+word_from (word ∷ words) (suc place) d h = word_from words place d (omega arith)
+
+pub word_here : (words : List (String Global)) (place : ℕ) (d : String Global) → place < length words → operand_text (string_bytes (get_or words place d)) ≡ text_at (texts_of words) place
+word_here words place d h = ap operand_text (word_from words place d h)
+
+pub no_word : (words : List (String Global)) (place : ℕ) → length words ≤ place → [] ≡ text_at (texts_of words) place
+no_word [] place h = refl
+no_word (word ∷ words) zero h = absurd (omega arith)
+no_word (word ∷ words) (suc place) h = no_word words place (omega arith)

@@ -28,7 +28,7 @@ pub record IsPlainWord (w : Text) : Type 0 where
   pub short : short_of w ≡ None
 
 -- what is not so is false
-is_not : (b : Bool) → not b ≡ true → b ≡ false
+pub is_not : (b : Bool) → not b ≡ true → b ≡ false
 is_not true e = sym e
 is_not false e = refl
 

@@ -4,7 +4,7 @@ use Rattle.std.specs.Str.{bytes_eq}
 use Rattle.tool_words.specs.Words.{Text}
 use Rattle.tool_words.specs.declared.commands.CommandShape.{CommandShape}
 use Rattle.tool_words.specs.declared.commands.Verb.{Verb}
-use Rattle.tool_words.specs.declared.commands.Verb.TheVariants.{Replay, Canon}
+use Rattle.tool_words.specs.declared.commands.Verb.TheVariants.{Replay, Canon, Merge, Steer}
 
 -- what a command does, its name, and its operands as the help shows them
 pub record Shape : Type 0 where
@@ -21,6 +21,8 @@ abbrev pub commands : List Shape
 commands =
     record { verb = Replay; name = codes "replay"; operands = codes "SNAP LOG" }
     ∷ record { verb = Canon; name = codes "canon"; operands = codes "LOG" }
+    ∷ record { verb = Merge; name = codes "merge"; operands = codes "[--prefs FILE] LOG..." }
+    ∷ record { verb = Steer; name = codes "steer"; operands = codes "SET LOG..." }
     ∷ []
 
 -- what the first of the commands with this name does

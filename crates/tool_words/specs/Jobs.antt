@@ -2,11 +2,12 @@
 use Rattle.std.specs.Prelude.{List, Bool, false, Option, Some, None, codes, ◌∷◌, [], ◌||◌, if◌then◌else◌, option_map, option_and_then}
 use Rattle.std.specs.Str.{bytes_eq}
 use Rattle.tool_words.specs.Words.{Text, Operand, numbered, one_operand, two_operands}
+use Rattle.tool_words.specs.Logs.{prefs_logs, first_logs}
 use Rattle.tool_words.specs.Commands.{commands, verb_in}
 use Rattle.tool_words.specs.declared.commands.Verb.{Verb}
 use Rattle.tool_words.specs.declared.commands.Verb.TheVariants as verb
 use Rattle.tool_words.specs.declared.job.Job.{Job}
-use Rattle.tool_words.specs.declared.job.Job.TheVariants.{Help, Replay, Canon}
+use Rattle.tool_words.specs.declared.job.Job.TheVariants.{Help, Replay, Canon, Merge, Steer}
 
 -- the only word asks for the help
 abbrev pub is_help : List Text → Bool
@@ -17,6 +18,8 @@ is_help _ = false
 abbrev pub operands_job : Verb → List Operand → Option Job
 operands_job verb.Replay operands = option_map (λ pair. Replay pair.0 pair.1) (two_operands operands)
 operands_job verb.Canon operands = option_map Canon (one_operand operands)
+operands_job verb.Merge operands = option_map (λ parts. Merge parts.0 parts.1) (prefs_logs operands)
+operands_job verb.Steer operands = option_map (λ pair. Steer pair.0 pair.1) (first_logs operands)
 
 -- the job of a command line whose first word is the command
 abbrev pub command_job : List Operand → Option Job

@@ -1,4 +1,5 @@
 pub mod Words
+pub mod Logs
 pub mod Apps
 pub mod Commands
 pub mod Jobs

@@ -1,9 +1,10 @@
--- The operands of a job, and the words that they are.
-use Rattle.std.specs.Prelude.{◌≡◌, List, ℕ, zero, suc, ◌∷◌, [], Option, Some, None}
+-- The operands of a job, and the words that they stand in.
+use Rattle.std.specs.Prelude.{◌≡◌, List, ℕ, zero, suc, ◌∷◌, [], ◌++◌, Option, Some, None, drop, option_to_list, if◌then◌else◌}
 use Rattle.std.specs.List.{AllByRecursion}
 use Rattle.tool_words.specs.Words.{Text, Operand}
+use Rattle.tool_words.specs.Logs.{has_prefs_prefix}
 use Rattle.tool_words.specs.declared.job.Job.{Job}
-use Rattle.tool_words.specs.declared.job.Job.TheVariants.{Help, Replay, Canon}
+use Rattle.tool_words.specs.declared.job.Job.TheVariants.{Help, Replay, Canon, Merge, Steer}
 
 -- the word at a place, and the empty word where there is none
 abbrev pub word_at : List Text → ℕ → Text
@@ -11,17 +12,27 @@ word_at [] place = []
 word_at (word ∷ words) zero = word
 word_at (word ∷ words) (suc place) = word_at words place
 
+-- the operand that a word has: FILE of a word `--prefs=FILE`, and any other word itself
+abbrev pub operand_text : Text → Text
+operand_text word = if has_prefs_prefix word then drop 8 word else word
+
+-- the text of the operand whose word is at a place
+abbrev pub text_at : List Text → ℕ → Text
+text_at words place = operand_text (word_at words place)
+
 -- the operands of a job, in the order of the words
 abbrev pub job_operands : Job → List Operand
 job_operands Help = []
 job_operands (Replay snap log) = snap ∷ log ∷ []
 job_operands (Canon log) = log ∷ []
+job_operands (Merge prefs logs) = option_to_list prefs ++ logs
+job_operands (Steer set logs) = set ∷ logs
 
 -- the same, and none where there is no job
 abbrev pub operands_in : Option Job → List Operand
 operands_in None = []
 operands_in (Some job) = job_operands job
 
--- each operand is the word at its place
+-- each operand has the text of the word at its place
 abbrev pub AreInPlace : List Text → List Operand → Type 0
-AreInPlace words operands = AllByRecursion (λ operand. word_at words operand.place ≡ operand.text) operands
+AreInPlace words operands = AllByRecursion (λ operand. text_at words operand.place ≡ operand.text) operands

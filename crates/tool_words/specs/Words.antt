@@ -17,6 +17,10 @@ pub record Operand : Type 0 where
   pub text : Text
   pub place : ℕ
 
+-- the operand of a text in the word at a place
+abbrev pub operand_at : ℕ → Text → Operand
+operand_at place text = record { text = text; place = place }
+
 -- the words with their places, which count on from this one
 abbrev pub numbered : ℕ → List Text → List Operand
 numbered place [] = []
@@ -33,7 +37,7 @@ first_place (place ∷ places) = place
 
 -- the words that follow the command's name
 abbrev pub after_name : List Text → List Operand
-after_name words = drop 1 (numbered 0 words)
+after_name words = numbered 1 (drop 1 words)
 
 -- the operands of words
 abbrev pub operands_of : List (String Global) → List Operand

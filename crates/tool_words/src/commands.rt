@@ -14,6 +14,8 @@ use sync_path::NoMemory;
 pub(crate) enum Verb {
     Replay,
     Canon,
+    Merge,
+    Steer,
 }
 
 /// What a command does, its name, and its operands as the help shows them.
@@ -25,7 +27,7 @@ pub(crate) struct CommandShape {
 }
 
 /// The commands that are built, in the order of the help.
-pub(crate) const COMMANDS: [CommandShape; 2] = [
+pub(crate) const COMMANDS: [CommandShape; 4] = [
     CommandShape {
         verb: Verb::Replay,
         name: "replay",
@@ -35,6 +37,16 @@ pub(crate) const COMMANDS: [CommandShape; 2] = [
         verb: Verb::Canon,
         name: "canon",
         operands: "LOG",
+    },
+    CommandShape {
+        verb: Verb::Merge,
+        name: "merge",
+        operands: "[--prefs FILE] LOG...",
+    },
+    CommandShape {
+        verb: Verb::Steer,
+        name: "steer",
+        operands: "SET LOG...",
     },
 ];
 

@@ -3,6 +3,7 @@
 ghost use Rattle.std.specs.Prelude.{◌≡◌};
 ghost use Rattle.tool_words.specs.declared.job.WordFault.TheVariants.{Memory};
 
+use crate::file_list::FileList;
 use std::alloc::AllocError;
 use std::marker::Model;
 use sync_path::NoMemory;
@@ -53,9 +54,25 @@ pub enum Job<'a> {
     /// Print the help.
     Help,
     /// Print the snapshot in the file `snap` as it is after the log in the file `log`.
-    Replay { snap: Word<'a>, log: Word<'a> },
+    Replay {
+        snap: Word<'a>,
+        log: Word<'a>,
+    },
     /// Print the net set of the log in the file `log`.
-    Canon { log: Word<'a> },
+    Canon {
+        log: Word<'a>,
+    },
+    /// Print the first merger of the logs, under the rules of the file `prefs` or under none.
+    Merge {
+        prefs: Option<Word<'a>>,
+        logs: FileList<'a>,
+    },
+    /// Print the rules under which the net set of the log in the file `set` is the first merger of
+    /// the logs.
+    Steer {
+        set: Word<'a>,
+        logs: FileList<'a>,
+    },
 }
 
 /// Why there is no job.

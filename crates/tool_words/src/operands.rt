@@ -18,7 +18,7 @@ use clap::{Arg, ArgMatches, Command, Error};
 use std::alloc::{AllocError, Global};
 
 /// Whether the word is not empty and does not begin with a dash.
-fn is_plain_word(word: &str) -> bool
+pub(crate) fn is_plain_word(word: &str) -> bool
     ensures { result ≡ is_plain word.now }
 {
     match word.as_bytes().first() {
@@ -28,7 +28,7 @@ fn is_plain_word(word: &str) -> bool
 }
 
 /// Whether each of the words is plain.
-fn are_plain(words: &[String]) -> bool
+pub(crate) fn are_plain(words: &[String]) -> bool
     ensures { result ≡ list_all is_plain (texts_of words.now) }
 {
     for word in words {
@@ -40,7 +40,7 @@ fn are_plain(words: &[String]) -> bool
 }
 
 /// Whether each word that follows the command's name is plain.
-fn are_operands_plain(words: &[String]) -> bool
+pub(crate) fn are_operands_plain(words: &[String]) -> bool
     ensures { result ≡ list_all is_plain (drop 1 (texts_of words.now)) }
 {
     match words.split_first() {

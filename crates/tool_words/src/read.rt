@@ -7,6 +7,7 @@ ghost use Rattle.tool_words.specs.Jobs.{job_of, operands_job, is_help};
 
 use crate::commands::{Verb, verb_of};
 use crate::job::{Job, WordFault};
+use crate::logs::{first_and_logs, prefs_and_logs};
 use crate::operands::{one_operand, two_operands};
 use std::alloc::Global;
 
@@ -39,14 +40,23 @@ fn read_operands<'a>(
             let log = one_operand(alloc, name, words)?;
             Ok(Job::Canon { log })
         }
+        Verb::Merge => {
+            let (prefs, logs) = prefs_and_logs(alloc, name, words)?;
+            Ok(Job::Merge { prefs, logs })
+        }
+        Verb::Steer => {
+            let (set, logs) = first_and_logs(alloc, name, words)?;
+            Ok(Job::Steer { set, logs })
+        }
     }
 }
 
 /// The job that the words ask for; `words` are the program's arguments, the command first.
 ///
 /// `help` or `--help` alone is the help. Any other words are the name of a command that is built,
-/// and the operands that the help lists for it, no more and no fewer. No operand is empty or
-/// begins with a dash. Refused comes only where the words are no such job, and is the answer to
+/// and the operands that the help lists for it, no more and no fewer, where LOG... is one log to
+/// 64. `--prefs FILE` or `--prefs=FILE` may stand right after a command that the help shows it
+/// for. FILE and each operand is not empty and does not begin with a dash. Refused comes only where the words are no such job, and is the answer to
 /// all such words but where memory ran out.
 pub fn read_words<'a>(alloc: Global, words: &'a [String]) -> Result<Job<'a>, WordFault>
     ensures ok { IfOk result (λ job. job_of (texts_of words.entry.now) ≡ Some job) }

@@ -3,7 +3,8 @@
 //!
 //! A line on the error stream is put together from these parts, the words and numbers:
 //! `PROGRAM`, then a file's word and `COLON` or `LINE` with a number and `COLON` where the refusal
-//! names them, then the text of the refusal and `LINE_END`.
+//! names them, then the text of the refusal and `LINE_END`. A text that ends with a blank has a
+//! path or a number after it.
 
 /// The first line of the help.
 pub const USAGE: &str = "usage: treesync COMMAND WORDS\n";
@@ -29,8 +30,26 @@ pub const READ_FAILED: &str = "read failed";
 pub const WRITE_FAILED: &str = "write failed";
 /// No tree takes the log up to a command (status 6).
 pub const NO_TREE: &str = "no tree takes this log";
+/// Before the numbers of two logs that no tree takes both (status 7).
+pub const LOGS: &str = "logs ";
+/// Between the two numbers.
+pub const AND: &str = " and ";
+/// No tree takes both logs; before the path where they disagree.
+pub const NO_COMMON_TREE: &str = "no common tree at ";
 /// A file passes a limit (status 12).
 pub const TOO_LARGE: &str = "too large";
+/// A rule names a log that is not there (status 13).
+pub const NO_SUCH_LOG: &str = "no such log";
+/// A rule names a command that its log does not have (status 13).
+pub const NO_SUCH_COMMAND: &str = "no such command";
+/// A command of the set is no log's; before its path (status 14).
+pub const NOT_DRAWN: &str = "not drawn at ";
+/// A command of the set does not fit the others; before its path (status 14).
+pub const DOES_NOT_FIT: &str = "does not fit at ";
+/// A log has a command that the set could take; before the log's number (status 14).
+pub const CAN_ADD_LOG: &str = "can add log ";
+/// Between that number and the command's path.
+pub const AT: &str = " at ";
 /// Memory ran out (status 16).
 pub const OUT_OF_MEMORY: &str = "out of memory";
 /// The snapshot's tree does not take a command of the log (status 17).
