@@ -10,3 +10,5 @@ pub mod Places
 pub mod InPlace
 pub mod Table
 pub mod Numbered
+pub mod FewLogs
+pub mod CallerLemmas

@@ -6,3 +6,4 @@ pub mod Jobs
 pub mod Operands
 pub mod Trees
 pub mod Help
+pub mod LogCounts

@@ -7,7 +7,7 @@ use Rattle.std.specs.declared.result.Result.{Result}
 use Rattle.sync_port.specs.States.{FaultCounted, IfBoth}
 use Rattle.sync_port.specs.Ports.{FileContents, FilesState}
 use Rattle.sync_port.proofs.CallerLemmas.{both_more, both_then, both_alone, counted_since}
-use Rattle.treesync.specs.Checks.{Answers, Check, IsAllowed, IsAllowedOf, IsRight, IsJudged, IsOfJob, Judged, ReadsFiles, Then, Unless}
+use Rattle.treesync.specs.Checks.{Answers, Check, IsAllowed, IsAllowedOf, IsRight, IsJudged, IsOfJob, Judged, Next, ReadsFiles, Then, Unless}
 use Rattle.treesync.specs.declared.refusal.Refusal.{Refusal}
 use Rattle.treesync.specs.declared.refusal.Refusal.TheVariants.{InvalidArguments, OutOfMemory, ReadFailed, Found}
 
@@ -251,3 +251,27 @@ memory_alone stands P limits state = record {
   allowed = memory_allowed P (FaultCounted state state) state.contents;
   job = tt;
 }
+
+-- ---- two judgements one after another
+
+module _ {X Y A B : Type 0} (stands : X → A → Type 0) (stands' : Y → B → Type 0) (P : Result A Refusal → Type 0) (Q : A → Result B Refusal → Type 0) where
+  next_of : (a : A) (result : Result Y Refusal) → P (Ok a) → IsJudged stands' (Q a) result → IsJudged stands' (Next P Q) result
+  next_of a (Ok y) p q = (q.0, q.1, inr (a, p, q.2))
+  next_of a (Err InvalidArguments) p q = q
+  next_of a (Err OutOfMemory) p q = tt
+  next_of a (Err (ReadFailed word)) p q = q
+  next_of a (Err (Found finding)) p q = inr (a, p, q)
+
+  pub judged_next : (x : X) (result : Result Y Refusal) → IsJudged stands P (Ok x) → ((a : A) → stands x a → P (Ok a) → IsJudged stands' (Q a) result) → IsJudged stands' (Next P Q) result
+  judged_next x result j q = next_of j.0 result j.2 (q j.0 j.1 j.2)
+
+  next_refused : (r : Refusal) → IsJudged stands P (Err r) → IsJudged stands' (Next P Q) (Err r)
+  next_refused InvalidArguments j = j
+  next_refused OutOfMemory j = tt
+  next_refused (ReadFailed word) j = j
+  next_refused (Found finding) j = inl (Found finding, j, refl)
+
+  pub judged_handed_on : (r : Refusal) (result : Result Y Refusal) → IsErrAnd result (λ e. e ≡ r) → IsJudged stands P (Err r) → IsJudged stands' (Next P Q) result
+  judged_handed_on r result e j =
+      let p = err_from_is_err_and result e in
+      subst (IsJudged stands' (Next P Q)) (sym (p.1 ∙ ap Err p.2)) (next_refused r j)

@@ -20,8 +20,8 @@ use Rattle.log_text.specs.Snapshots.{IsRowOfVersion, snapshot_text}
 use Rattle.treesync.specs.Checks.{Answers, HasItems, IsJudged}
 use Rattle.treesync.specs.Canon.{IsNet}
 use Rattle.treesync.specs.Files.{HasRows, IsSnapshot}
-use Rattle.treesync.specs.Logs.{IsLog, IsLogFile, IsTotalOf, ReadLog}
-use Rattle.treesync.specs.Replay.{IsAfter, IsRefusedAt, IsReplay, later_version, run_refusal}
+use Rattle.treesync.specs.Logs.{IsLog, IsLogFile, IsTotalOf, ReadLog, later_version}
+use Rattle.treesync.specs.Replay.{IsAfter, IsRefusedAt, IsReplay, run_refusal}
 use Rattle.treesync.specs.declared.input.TheConstants.{FILE_LIMIT}
 use Rattle.treesync.specs.declared.logs.LogFile.{LogFile}
 use Rattle.treesync.specs.declared.logs.TheConstants.{FULL_ALLOWANCE}
@@ -67,7 +67,7 @@ run_refused word version rows read commands left (run.NotTaken number) e stops =
 run_refused word version rows read commands left (run.Memory number) e stops = tt
 
 -- a text that is right where it is made
-same_text : (Q : Result (List ℕ) Refusal → Type 0) (text : List ℕ) (result : Result (Vec ℕ Global) Refusal) → Q (Ok text) → IsJudged HasItems (λ a. a ≡ Ok text) result → IsJudged HasItems Q result
+pub same_text : (Q : Result (List ℕ) Refusal → Type 0) (text : List ℕ) (result : Result (Vec ℕ Global) Refusal) → Q (Ok text) → IsJudged HasItems (λ a. a ≡ Ok text) result → IsJudged HasItems Q result
 same_text Q text (Ok x) q (a, e, f) = (a, e, subst Q (sym f) q)
 same_text Q text (Err InvalidArguments) q h = absurd h
 same_text Q text (Err OutOfMemory) q h = tt

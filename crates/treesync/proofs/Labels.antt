@@ -27,7 +27,7 @@ use Rattle.canon_set.specs.Logs.{net, touches}
 use Rattle.canon_set.specs.Sets.{canonical, put_in}
 use Rattle.log_text.specs.Logs.{IsOfVersion}
 use Rattle.log_text.specs.Snapshots.{IsRowOfVersion}
-use Rattle.treesync.specs.Replay.{later_version}
+use Rattle.treesync.specs.Logs.{later_version}
 
 -- ---- what a map holds, and its rows
 
@@ -109,12 +109,12 @@ empty_of : (version : Version) → is_of_version version Empty ≡ true
 empty_of One = refl
 empty_of Two = refl
 
-first_of : (v w : Version) (x : Value) → is_of_version v x ≡ true → is_of_version (later_version v w) x ≡ true
+pub first_of : (v w : Version) (x : Value) → is_of_version v x ≡ true → is_of_version (later_version v w) x ≡ true
 first_of One One x h = h
 first_of One Two x h = refl
 first_of Two w x h = refl
 
-second_of : (v w : Version) (x : Value) → is_of_version w x ≡ true → is_of_version (later_version v w) x ≡ true
+pub second_of : (v w : Version) (x : Value) → is_of_version w x ≡ true → is_of_version (later_version v w) x ≡ true
 second_of One w x h = h
 second_of Two w x h = refl
 

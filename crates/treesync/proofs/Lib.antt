@@ -4,5 +4,11 @@ pub mod LogReading
 pub mod Labels
 pub mod Sending
 pub mod Words
+pub mod JoinLemmas
+pub mod MergeLemmas
+pub mod SteerLemmas
+pub mod OneVerdict
+pub mod HeldLogs
+pub mod HeadlineLemmas
 pub mod Jobs
 pub mod Unique

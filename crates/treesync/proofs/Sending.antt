@@ -10,7 +10,6 @@ use Rattle.sync_port.specs.Ports.{SinkContents, SinkState, Flushes, SinkFaults}
 use Rattle.sync_port.specs.Sending.{Sends}
 use Rattle.treesync.specs.Ends.{PrintsAll, Says, SaysLine}
 use Rattle.sync_port.specs.declared.faults.SinkFailed.{SinkFailed}
-use Rattle.treesync.specs.Messages.{word_at}
 
 take-nil : (n : ℕ) → take {A = ℕ} n [] ≡ []
 take-nil zero = refl
@@ -98,17 +97,15 @@ stops a b c texts n d failed h first second =
 pub ends : (a b : Option SinkContents) (texts : List (Bor (List ℕ))) (n : ℕ) → length texts ≤ n → IfBoth a b (Sends {T = Unit {0}} (joined texts n) (Ok tt)) → IfBoth a b (Sends {T = Unit {0}} (concat (map (λ text. text.now) texts)) (Ok tt))
 ends a b texts n h sent = subst (λ t. IfBoth a b (Sends {T = Unit {0}} t (Ok tt))) (whole_joined texts n h) sent
 
--- ---- the word at a place
+-- ---- a line that ends with a path
 
-pub word_here : (words : List (String Global)) (place : ℕ) (d : String Global) → place < length words → string_bytes (get_or words place d) ≡ word_at (map string_bytes words) place
-word_here [] place d h = absurd (omega arith)
-word_here (w ∷ words) zero d h = refl
-word_here (w ∷ words) (suc place) d h = word_here words place d (omega arith)
+pub line_sent : (a b c d : Option SinkContents) (front path end : List ℕ) (first second : Unit {0}) (result : Result (Unit {0}) SinkFailed) →
+    IfBoth a b (Sends {T = Unit {0}} front (Ok first)) → IfBoth b c (Sends {T = Unit {0}} path (Ok second)) → IfBoth c d (Sends end result) → IfBoth a d (Sends (front ++ (path ++ end)) result)
+line_sent a b c d front path end first second result h g k = sends_on a b d front (path ++ end) first result h (sends_on b c d path end second result g k)
 
-pub no_word : (words : List (String Global)) (place : ℕ) → length words ≤ place → [] ≡ word_at (map string_bytes words) place
-no_word [] place h = refl
-no_word (w ∷ words) zero h = absurd (omega arith)
-no_word (w ∷ words) (suc place) h = no_word words place (omega arith)
+pub path_stops : (a b c : Option SinkContents) (front path end : List ℕ) (first : Unit {0}) (failed : SinkFailed) →
+    IfBoth a b (Sends {T = Unit {0}} front (Ok first)) → IfBoth b c (Sends {T = Unit {0}} path (Err failed)) → IfBoth a c (Sends {T = Unit {0}} (front ++ (path ++ end)) (Err failed))
+path_stops a b c front path end first failed h g = sends_on a b c front (path ++ end) first (Err failed) h (sends_stop b c path end failed g)
 
 -- ---- printing, and saying one line
 

@@ -1,22 +1,48 @@
 -- What the words and the held bytes determine is one answer: each check has at most one, and so have two checks one after another.
-use Rattle.std.proofs.Common.{◌≡◌, ℕ, zero, suc, false, ◌-◌, ◌<◌, ◌≤◌, List, [], ◌∷◌, length, take, slice_get, Option, Some, None, Result, Ok, Err, inl, inr, refl, sym, ap, subst, ◌∙◌, arith, take-take}
+use Rattle.std.proofs.Common.{◌≡◌, ◌⊎◌, Bool, ℕ, zero, suc, true, false, ◌-◌, ◌<◌, ◌≤◌, List, [], ◌∷◌, length, take, slice_get, Option, Some, None, Result, Ok, Err, inl, inr, refl, sym, ap, subst, ◌∙◌, arith, take-take}
+use Rattle.std.proofs.lemmas.Bool.Decides.{nat_tests}
 use Rattle.sync_command.specs.declared.commands.Row.{Row}
 use Rattle.sync_command.specs.Changes.{Change}
 use Rattle.sync_command.specs.Maps.{Store, at}
-use Rattle.sync_command.specs.Trees.{Holding, IsApplicable, Takes, put, result_of}
+use Rattle.sync_command.specs.Trees.{Holding, IsApplicable, Takes, command_at, one_each, put, result_of}
 use Rattle.apply_model.specs.Entries.{store_of}
 use Rattle.apply_model.specs.Replays.{IsRefused}
-use Rattle.sync_path.specs.Paths.{parts}
+use Rattle.sync_path.specs.Paths.{Node, comes_before, parts, same_path}
+use Rattle.sync_path.proofs.CallerLemmas.{before_total, same_path_is}
+use Rattle.sync_command.proofs.CallerLemmas.{canonical_unique, command_at-node}
+use Rattle.canon_set.specs.Sets.{canonical}
+use Rattle.canon_set.proofs.CallerLemmas.{command_at-canonical, is_canonical-canonical, one_each-canonical}
+use Rattle.log_text.specs.Logs.{log_of, log_text}
+use Rattle.refluent.specs.CommonTrees.{AllChange, HasCommonTree}
+use Rattle.refluent.specs.Drawn.{drawn_commands}
+use Rattle.refluent.specs.FirstDisagreements.{IsFirstDisagreement, pair_before}
+use Rattle.refluent.specs.Sets.{HaveSameCommands, IsSubset}
+use Rattle.refluent.proofs.CallerLemmas.{at_from_in, in_from_at}
+use Rattle.pref_list.specs.Prefs.{prefs_of}
+use Rattle.pref_list.specs.Ranking.{ranking}
+use Rattle.pref_list.specs.declared.rules.Rule.{Rule}
+use Rattle.pref_list.proofs.CallerLemmas.{drawn_ranked}
+use Rattle.merge_core.specs.FirstMergers.{IsFirstMerger}
+use Rattle.merge_core.specs.declared.checking.Verdict.{Verdict}
+use Rattle.merge_core.specs.declared.checking.Verdict.TheVariants as verdict
+use Rattle.merge_core.proofs.CallerLemmas.{one_first}
+use Rattle.tool_words.specs.Words.{Operand}
 use Rattle.sync_command.specs.declared.values.Version.{Version}
-use Rattle.log_text.specs.Logs.{log_of}
 use Rattle.log_text.specs.Snapshots.{snapshot_of}
-use Rattle.canon_set.specs.Logs.{IsTaken}
+use Rattle.canon_set.specs.Logs.{IsBrokenAt, IsTaken}
 use Rattle.tool_words.specs.declared.job.Job.{Job}
-use Rattle.tool_words.specs.declared.job.Job.TheVariants.{Help, Replay, Canon}
+use Rattle.tool_words.specs.declared.job.Job.TheVariants.{Help, Replay, Canon, Merge, Steer}
 use Rattle.tool_words.specs.Jobs.{job_of}
 use Rattle.sync_port.specs.Ports.{Names}
-use Rattle.treesync.specs.Checks.{Check, IsOne, Judged, Then}
+use Rattle.treesync.specs.Checks.{Check, IsOne, Judged, Next, Then}
 use Rattle.treesync.specs.Canon.{IsCanon, IsNet}
+use Rattle.treesync.specs.Joining.{AllTaken, AreTaken, EachTaken, IsFirstUntaken, IsJoined, IsLogs, commands_of, joint_version, left_after}
+use Rattle.treesync.specs.Merge.{IsMerge, IsMergeOf, IsMerged, IsMergerText}
+use Rattle.treesync.specs.Preferences.{ArePreferences, RulesHold, preference_word, rule_refusal}
+use Rattle.treesync.specs.Steer.{IsNetSet, IsSteer, IsSteered, IsSteering, RefusesBy}
+use Rattle.treesync.proofs.HeldLogs.{all_change_held, held_logs, same_commands}
+use Rattle.treesync.proofs.OneVerdict.{one_verdict}
+use Rattle.treesync.specs.declared.preferences.TheConstants.{PREFS_LIMIT}
 use Rattle.treesync.specs.Files.{IsFile, IsSnapshot, text_answer}
 use Rattle.treesync.specs.Logs.{IsLog, ReadLog, log_answer}
 use Rattle.treesync.specs.declared.input.TheConstants.{FILE_LIMIT}
@@ -26,7 +52,7 @@ use Rattle.treesync.specs.Jobs.{IsAnswer, IsAnswerOf, IsJobAnswer}
 use Rattle.treesync.specs.Replay.{IsAfter, IsRefusedAt, IsReplay}
 use Rattle.treesync.specs.declared.refusal.Refusal.{Refusal}
 use Rattle.treesync.specs.declared.refusal.Refusal.TheVariants.{Found}
-use Rattle.treesync.specs.declared.refusal.Finding.TheVariants.{NoTree, NotTaken}
+use Rattle.treesync.specs.declared.refusal.Finding.TheVariants.{NoCommonTree, NoTree, NotTaken}
 
 -- ---- checks one after another
 
@@ -145,12 +171,223 @@ replay_one snap_word snap log_word log =
     then_one (IsSnapshot snap_word snap) (λ snapshot. Then (IsLog FULL_ALLOWANCE log_word log) (λ read. Judged (IsAfter log_word snapshot read))) (snapshot_one snap_word snap) (λ snapshot.
     then_one (IsLog FULL_ALLOWANCE log_word log) (λ read. Judged (IsAfter log_word snapshot read)) (log_one FULL_ALLOWANCE log_word log) (after_one log_word snapshot))
 
+-- ---- judgements, one after another
+
+-- one answer at most is right
+abbrev OneOf : {A : Type 0} → (Result A Refusal → Type 0) → Type 0
+OneOf {A} Q = (one other : Result A Refusal) → Q one → Q other → one ≡ other
+
+judged_one : {A : Type 0} (Q : Result A Refusal → Type 0) → OneOf Q → IsOne (Judged Q)
+judged_one Q f held one other p q = f one other p q
+
+next_one : {A B : Type 0} (P : Result A Refusal → Type 0) (Q : A → Result B Refusal → Type 0) → OneOf P → ((a : A) → P (Ok a) → OneOf (Q a)) → OneOf (Next P Q)
+next_one P Q first next one other (inl p) (inl q) = p.2 ∙ ap Err (err_same (first (Err p.0) (Err q.0) p.1 q.1)) ∙ sym q.2
+next_one P Q first next one other (inl p) (inr q) = absurd (ok_not_err (first (Ok q.0) (Err p.0) q.1 p.1))
+next_one P Q first next one other (inr p) (inl q) = absurd (ok_not_err (first (Ok p.0) (Err q.0) p.1 q.1))
+next_one P Q first next one other (inr p) (inr q) =
+    next q.0 q.1 one other (subst (λ a. Q a one) (ok_same (first (Ok p.0) (Ok q.0) p.1 q.1)) p.2) q.2
+
+-- ---- the logs of a job
+
+logs_one : (left : Allowance) (files : List Operand) → IsOne (IsLogs left files)
+logs_one left [] = named_one (Ok [])
+logs_one left (file ∷ files) =
+    then_one (IsLog left file.place file.text) (λ read. Then (IsLogs (left_after left read) files) (λ reads. Judged (λ answer. answer ≡ Ok (read ∷ reads)))) (log_one left file.place file.text) (λ read.
+    then_one (IsLogs (left_after left read) files) (λ reads. Judged (λ answer. answer ≡ Ok (read ∷ reads))) (logs_one (left_after left read) files) (λ reads. named_one (Ok (read ∷ reads))))
+
+broken_once : (cs : List Change) (i j : ℕ) → IsBrokenAt cs i → IsBrokenAt cs j → i ≡ j
+broken_once cs i j p q = first_failing (λ k. IsTaken (take k cs)) (taken_shorter cs) i j p.2 p.3 q.2 q.3
+
+not_broken : (cs : List Change) (number : ℕ) → IsBrokenAt cs number → IsTaken cs → ⊥
+not_broken cs number broken taken = broken.3 (taken_prefix number cs taken)
+
+untaken_not : (files : List Operand) (reads : List ReadLog) (r : Refusal) → IsFirstUntaken files reads r → AreTaken reads → ⊥
+untaken_not [] reads r h taken = h
+untaken_not (file ∷ files) [] r h taken = h
+untaken_not (file ∷ files) (read ∷ reads) r (inl h) taken = not_broken read.commands h.0 h.2 taken.0
+untaken_not (file ∷ files) (read ∷ reads) r (inr h) taken = untaken_not files reads r h.1 taken.1
+
+untaken_once : (files : List Operand) (reads : List ReadLog) (r s : Refusal) → IsFirstUntaken files reads r → IsFirstUntaken files reads s → r ≡ s
+untaken_once [] reads r s p q = absurd p
+untaken_once (file ∷ files) [] r s p q = absurd p
+untaken_once (file ∷ files) (read ∷ reads) r s (inl p) (inl q) = p.1 ∙ ap (λ n. Found (NoTree file.place n)) (broken_once read.commands p.0 q.0 p.2 q.2) ∙ sym q.1
+untaken_once (file ∷ files) (read ∷ reads) r s (inl p) (inr q) = absurd (not_broken read.commands p.0 p.2 q.0)
+untaken_once (file ∷ files) (read ∷ reads) r s (inr p) (inl q) = absurd (not_broken read.commands q.0 q.2 p.0)
+untaken_once (file ∷ files) (read ∷ reads) r s (inr p) (inr q) = untaken_once files reads r s p.1 q.1
+
+each_taken_one : (files : List Operand) (reads : List ReadLog) → OneOf (EachTaken files reads)
+each_taken_one files reads (Ok one) (Ok other) p q = ap Ok (p.0 ∙ sym q.0)
+each_taken_one files reads (Ok one) (Err r) p q = absurd (untaken_not files reads r q p.1)
+each_taken_one files reads (Err r) (Ok other) p q = absurd (untaken_not files reads r p q.1)
+each_taken_one files reads (Err r) (Err s) p q = ap Err (untaken_once files reads r s p q)
+
+-- the pair of logs that a refusal names
+pairs_cases : (i j k l : ℕ) → ((i ≡ k) × (j ≡ l)) ⊎ ((pair_before i j k l ≡ true) ⊎ (pair_before k l i j ≡ true))
+pairs_cases i j k l = grind (arith, nat_tests)
+
+one_pair : (logs : List (List Change)) (i j k l : ℕ) (p q : Node) → IsFirstDisagreement logs i j p → IsFirstDisagreement logs k l q → (i ≡ k) × (j ≡ l)
+one_pair logs i j k l p q a b = go (pairs_cases i j k l)
+  where
+    go : ((i ≡ k) × (j ≡ l)) ⊎ ((pair_before i j k l ≡ true) ⊎ (pair_before k l i j ≡ true)) → (i ≡ k) × (j ≡ l)
+    go (inl h) = h
+    go (inr (inl h)) = let e = b.least_pair i j p a.pair h in absurd (cc (a.here, e))
+    go (inr (inr h)) = let e = a.least_pair k l q b.pair h in absurd (cc (b.here, e))
+
+one_node : (logs : List (List Change)) (i j : ℕ) (p q : Node) → IsFirstDisagreement logs i j p → IsFirstDisagreement logs i j q → p ≡ q
+one_node logs i j p q a b = go (same_path p q) refl (comes_before p q) refl
+  where
+    go : (s : Bool) → same_path p q ≡ s → (c : Bool) → comes_before p q ≡ c → p ≡ q
+    go true s c e = same_path_is p q s
+    go false s true e = let f = b.first_node p e in absurd (cc (a.here, f))
+    go false s false e = let f = a.first_node q (before_total p q s e) in absurd (cc (b.here, f))
+
+all_taken_one : (reads : List ReadLog) → OneOf (AllTaken reads)
+all_taken_one reads (Ok one) (Ok other) p q = ap Ok (p.0 ∙ sym q.0)
+all_taken_one reads (Ok one) (Err r) p q = absurd (q.4.disagreement.none p.1)
+all_taken_one reads (Err r) (Ok other) p q = absurd (p.4.disagreement.none q.1)
+all_taken_one reads (Err r) (Err s) p q = ap Err (p.3 ∙ (λ i. Found (NoCommonTree (first i) (second i) (node i))) ∙ sym q.3)
+  where
+    pair : (p.0 - 1 ≡ q.0 - 1) × (p.1 - 1 ≡ q.1 - 1)
+    pair = one_pair (commands_of reads) (p.0 - 1) (p.1 - 1) (q.0 - 1) (q.1 - 1) p.2 q.2 p.4.disagreement.disagreement q.4.disagreement.disagreement
+
+    first : p.0 ≡ q.0
+    first = omega (arith, pair.0, p.4.counted, q.4.counted)
+
+    second : p.1 ≡ q.1
+    second = omega (arith, pair.0, pair.1, p.4.counted, q.4.counted, p.4.disagreement.disagreement.pair, q.4.disagreement.disagreement.pair)
+
+    node : p.2 ≡ q.2
+    node =
+        one_node (commands_of reads) (q.0 - 1) (q.1 - 1) p.2 q.2
+        (subst (λ l. IsFirstDisagreement (commands_of reads) (q.0 - 1) l p.2) pair.1 (subst (λ k. IsFirstDisagreement (commands_of reads) k (p.1 - 1) p.2) pair.0 p.4.disagreement.disagreement))
+        q.4.disagreement.disagreement
+
+joined_one : (files : List Operand) (reads : List ReadLog) → OneOf (IsJoined files reads)
+joined_one files reads = next_one (EachTaken files reads) AllTaken (each_taken_one files reads) (λ taken h. all_taken_one taken)
+
+-- what was joined has a common tree
+has_common : (files : List Operand) (reads joined : List ReadLog) → IsJoined files reads (Ok joined) → HasCommonTree (commands_of joined)
+has_common files reads joined (inl h) = absurd (ok_not_err h.2)
+has_common files reads joined (inr h) = subst (λ rs. HasCommonTree (commands_of rs)) (sym h.2.0) h.2.1
+
+-- ---- the first merger of the logs
+
+preferences_one : (prefs : Option Operand) → IsOne (ArePreferences prefs)
+preferences_one None = named_one (Ok [])
+preferences_one (Some file) =
+    then_one (IsFile PREFS_LIMIT file.place file.text) (λ bytes. Judged (λ answer. answer ≡ text_answer file.place (prefs_of (parts 10 bytes))))
+    (file_one PREFS_LIMIT file.place file.text) (λ bytes. named_one (text_answer file.place (prefs_of (parts 10 bytes))))
+
+rules_one : (word : ℕ) (rules : List Rule) (reads : List ReadLog) → OneOf (RulesHold word rules reads)
+rules_one word rules reads (Ok one) (Ok other) p q = ap Ok (p.0 ∙ sym q.0)
+rules_one word rules reads (Ok one) (Err r) p q = absurd (cc (p.1, q.1))
+rules_one word rules reads (Err r) (Ok other) p q = absurd (cc (p.1, q.1))
+rules_one word rules reads (Err r) (Err s) p q = let same : p.0 ≡ q.0 = cc (p.1, q.1) in ap Err (p.2 ∙ ap (rule_refusal word) same ∙ sym q.2)
+
+-- sets with the same commands, one a node, have one canonical list
+pub one_list : (cs ds : List Change) → one_each cs ≡ true → one_each ds ≡ true → HaveSameCommands cs ds → canonical cs ≡ canonical ds
+one_list cs ds one other same =
+    canonical_unique (canonical cs) (canonical ds) (is_canonical-canonical cs one) (is_canonical-canonical ds other) (one_each-canonical cs one) (one_each-canonical ds other) (λ p.
+    command_at-canonical cs one p ∙ here p (command_at cs p) refl (command_at ds p) refl ∙ sym (command_at-canonical ds other p))
+  where
+    -- a command of one set at a node is that of the other
+    there : (xs ys : List Change) → one_each ys ≡ true → IsSubset xs ys → (p : Node) (c : Change) → command_at xs p ≡ Some c → command_at ys p ≡ Some c
+    there xs ys once part p c e = ap (command_at ys) (command_at-node xs p c e) ∙ at_from_in ys once c (part c (in_from_at xs p c e))
+
+    here : (p : Node) (o : Option Change) → command_at cs p ≡ o → (u : Option Change) → command_at ds p ≡ u → command_at cs p ≡ command_at ds p
+    here p (Some c) e u f = e ∙ sym (there cs ds other same.0 p c e)
+    here p None e (Some d) f = there ds cs one same.1 p d f ∙ sym f
+    here p None e None f = e ∙ sym f
+
+merger_text_one : (rules : List Rule) (reads : List ReadLog) → HasCommonTree (commands_of reads) → OneOf (IsMergerText rules reads)
+merger_text_one rules reads common (Ok one) (Ok other) p q = ap Ok (p.2 ∙ ap (log_text (joint_version reads)) same ∙ sym q.2)
+  where
+    first : IsFirstMerger (at common.map) (drawn_commands (commands_of reads)) (ranking (commands_of reads) rules) p.0
+    first = p.1 common.map common.common
+
+    second : IsFirstMerger (at common.map) (drawn_commands (commands_of reads)) (ranking (commands_of reads) rules) q.0
+    second = q.1 common.map common.common
+
+    same : canonical p.0 ≡ canonical q.0
+    same =
+        one_list p.0 q.0 first.merger.fits.one second.merger.fits.one
+        (one_first (at common.map) (drawn_commands (commands_of reads)) (ranking (commands_of reads) rules) p.0 q.0 (drawn_ranked (commands_of reads) rules) first second)
+merger_text_one rules reads common (Ok one) (Err r) p q = absurd q
+merger_text_one rules reads common (Err r) other p q = absurd p
+
+merged_one : (word : ℕ) (rules : List Rule) (reads : List ReadLog) → HasCommonTree (commands_of reads) → OneOf (IsMerged word rules reads)
+merged_one word rules reads common =
+    next_one (RulesHold word rules reads) (IsMergerText rules) (rules_one word rules reads) (λ same h. merger_text_one rules same (subst (λ rs. HasCommonTree (commands_of rs)) (sym h.0) common))
+
+merge_of_one : (word : ℕ) (rules : List Rule) (files : List Operand) → IsOne (IsMergeOf word rules files)
+merge_of_one word rules files =
+    then_one (IsLogs FULL_ALLOWANCE files) (λ reads. Judged (Next (IsJoined files reads) (IsMerged word rules))) (logs_one FULL_ALLOWANCE files) (λ reads.
+    judged_one (Next (IsJoined files reads) (IsMerged word rules)) (next_one (IsJoined files reads) (IsMerged word rules) (joined_one files reads) (λ joined h. merged_one word rules joined (has_common files reads joined h))))
+
+merge_one : (prefs : Option Operand) (files : List Operand) → IsOne (IsMerge prefs files)
+merge_one prefs files =
+    then_one (ArePreferences prefs) (λ rules. IsMergeOf (preference_word prefs) rules files) (preferences_one prefs) (λ rules. merge_of_one (preference_word prefs) rules files)
+
+-- ---- the rules that steer to a set
+
+-- the second of two checks has one answer after each value that is right for the first
+then_one_after : {A B : Type 0} (P : Check A) (Q : A → Check B) → IsOne P →
+    ((held : Names) (a : A) → P held false (Ok a) → (one other : Result B Refusal) → Q a held false one → Q a held false other → one ≡ other) → IsOne (Then P Q)
+then_one_after P Q first next held one other (inl p) (inl q) = p.2 ∙ ap Err (err_same (first held (Err p.0) (Err q.0) p.1 q.1)) ∙ sym q.2
+then_one_after P Q first next held one other (inl p) (inr q) = absurd (ok_not_err (first held (Ok q.0) (Err p.0) q.1 p.1))
+then_one_after P Q first next held one other (inr p) (inl q) = absurd (ok_not_err (first held (Ok p.0) (Err q.0) p.1 q.1))
+then_one_after P Q first next held one other (inr p) (inr q) =
+    next held q.0 q.1 one other (subst (λ a. Q a held false one) (ok_same (first held (Ok p.0) (Ok q.0) p.1 q.1)) p.2) q.2
+
+net_set_one : (word : ℕ) (read : ReadLog) → OneOf (IsNetSet word read)
+net_set_one word read (Ok one) (Ok other) p q = ap Ok (p.1 ∙ sym q.1)
+net_set_one word read (Ok one) (Err r) p q = absurd (not_broken read.commands q.0 q.2 p.0)
+net_set_one word read (Err r) (Ok other) p q = absurd (not_broken read.commands p.0 p.2 q.0)
+net_set_one word read (Err r) (Err s) p q = ap Err (p.1 ∙ ap (λ n. Found (NoTree word n)) (broken_once read.commands p.0 q.0 p.2 q.2) ∙ sym q.1)
+
+-- a verdict means one refusal, and a merger none
+one_refusal : (word : ℕ) (v : Verdict) (r s : Refusal) → RefusesBy word v r → RefusesBy word v s → r ≡ s
+one_refusal word verdict.Merger r s p q = absurd p
+one_refusal word (verdict.NotDrawn path) r s p q = p ∙ sym q
+one_refusal word (verdict.DoesNotFit path) r s p q = p ∙ sym q
+one_refusal word (verdict.CanAdd log path) r s p q = p ∙ sym q
+
+steered_one : (word : ℕ) (set : List Change) (reads : List ReadLog) → AllChange (commands_of reads) → HasCommonTree (commands_of reads) → OneOf (IsSteered word set reads)
+steered_one word set reads change common (Ok one) (Ok other) p q = ap Ok (p.1 ∙ sym q.1)
+steered_one word set reads change common (Ok one) (Err r) p q =
+    absurd (subst (λ v. RefusesBy word v r) (sym (one_verdict (commands_of reads) change common set verdict.Merger q.0 p.0 q.1)) q.2)
+steered_one word set reads change common (Err r) (Ok other) p q =
+    absurd (subst (λ v. RefusesBy word v r) (sym (one_verdict (commands_of reads) change common set verdict.Merger p.0 q.0 p.1)) p.2)
+steered_one word set reads change common (Err r) (Err s) p q =
+    let same = one_verdict (commands_of reads) change common set p.0 q.0 p.1 q.1 in
+    ap Err (one_refusal word q.0 r s (subst (λ v. RefusesBy word v r) same p.2) q.2)
+
+-- what was joined was read
+was_read : (files : List Operand) (reads joined : List ReadLog) → IsJoined files reads (Ok joined) → joined ≡ reads
+was_read files reads joined (inl h) = absurd (ok_not_err h.2)
+was_read files reads joined (inr h) = h.2.0 ∙ h.1.0
+
+all_change_read : (held : Names) (left : Allowance) (files : List Operand) (reads : List ReadLog) → IsLogs left files held false (Ok reads) → AllChange (commands_of reads)
+all_change_read held left files reads h =
+    let found = held_logs held left files reads h in
+    subst AllChange (sym (ap commands_of found.same ∙ same_commands found.logs)) (all_change_held held files found.logs found.texts)
+
+steer_one : (file : Operand) (files : List Operand) → IsOne (IsSteer file files)
+steer_one file files =
+    then_one (IsLog FULL_ALLOWANCE file.place file.text) (λ (read : ReadLog). Then (IsLogs FULL_ALLOWANCE files) (λ reads. Judged (IsSteering file.place files read reads))) (log_one FULL_ALLOWANCE file.place file.text) (λ read.
+    then_one_after (IsLogs FULL_ALLOWANCE files) (λ reads. Judged (IsSteering file.place files read reads)) (logs_one FULL_ALLOWANCE files) (λ held reads h.
+    next_one (IsNetSet file.place read) (λ set. Next (IsJoined files reads) (IsSteered file.place set)) (net_set_one file.place read) (λ set s.
+    next_one (IsJoined files reads) (IsSteered file.place set) (joined_one files reads) (λ joined j.
+    steered_one file.place set joined (subst (λ rs. AllChange (commands_of rs)) (sym (was_read files reads joined j)) (all_change_read held FULL_ALLOWANCE files reads h)) (has_common files reads joined j)))))
+
 -- ---- the answer of words
 
 job_one : (job : Job) → IsOne (IsJobAnswer job)
 job_one Help = named_one _
 job_one (Replay snap log) = replay_one snap.place snap.text log.place log.text
 job_one (Canon log) = canon_one log.place log.text
+job_one (Merge prefs logs) = merge_one prefs logs
+job_one (Steer set logs) = steer_one set logs
 
 answer_of_one : (job : Option Job) → IsOne (IsAnswerOf job)
 answer_of_one None = named_one _

@@ -73,7 +73,7 @@ found_reads (Some job) before now found f = f.reads
 -- ---- statuses
 
 -- no finding has a status of the other refusals, or of a text that was printed
-finding_above : (finding : Finding) → 5 ≤ finding_status finding
+pub finding_above : (finding : Finding) → 5 ≤ finding_status finding
 finding_above finding = grind arith
 
 -- a status of a text, or of a refusal that a job has

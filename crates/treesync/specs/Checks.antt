@@ -24,6 +24,10 @@ Then {A} P Q held failed answer =
 abbrev pub Judged : {A : Type 0} → (Result A Refusal → Type 0) → Check A
 Judged Q held failed answer = Q answer
 
+-- two judgements one after another, as `Then` has two checks
+abbrev pub Next : {A B : Type 0} → (Result A Refusal → Type 0) → (A → Result B Refusal → Type 0) → Result B Refusal → Type 0
+Next {A} P Q answer = ((r : Refusal) × P (Err r) × (answer ≡ Err r)) ⊎ ((a : A) × P (Ok a) × Q a answer)
+
 -- one answer at most is right where no call failed, whatever is held
 abbrev pub IsOne : {A : Type 0} → Check A → Type 0
 IsOne {A} P = (held : Names) (one other : Result A Refusal) → P held false one → P held false other → one ≡ other

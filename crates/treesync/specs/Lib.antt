@@ -1,8 +1,13 @@
 pub mod Checks
 pub mod Files
 pub mod Logs
+pub mod Joining
+pub mod Preferences
 pub mod Canon
 pub mod Replay
+pub mod Merge
+pub mod Steer
 pub mod Jobs
+pub mod Headline
 pub mod Messages
 pub mod Ends

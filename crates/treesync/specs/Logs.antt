@@ -4,6 +4,7 @@ use Rattle.std.specs.List.{AllByRecursion}
 use Rattle.sync_path.specs.Paths.{parts}
 use Rattle.sync_command.specs.Changes.{Change}
 use Rattle.sync_command.specs.declared.values.Version.{Version}
+use Rattle.sync_command.specs.declared.values.Version.TheVariants.{One, Two}
 use Rattle.canon_set.specs.Logs.{IsBrokenAt}
 use Rattle.canon_set.specs.Sums.{Sum, StandsFor}
 use Rattle.log_text.specs.declared.faults.TextFault.{TextFault}
@@ -26,6 +27,11 @@ pub record ReadLog : Type 0 where
   pub size : ℕ
   pub version : Version
   pub commands : List Change
+
+-- version 2 wherever one of the two is
+abbrev pub later_version : Version → Version → Version
+later_version One v = v
+later_version Two v = Two
 
 -- what a log's text reads as where so many commands are left for it, or what is wrong with it
 abbrev pub log_answer : ℕ → ℕ → ℕ → Result (Version × List Change) TextFault → Result ReadLog Refusal

@@ -1,17 +1,25 @@
 -- The status of each refusal, and its line on the error sink.
-use Rattle.std.specs.Prelude.{ℕ, ◌+◌, List, [], ◌∷◌, codes, decimal, zero, suc}
+use Rattle.std.specs.Prelude.{ℕ, ◌+◌, List, [], ◌∷◌, ◌++◌, codes, decimal}
 use Rattle.std.specs.List.{concat}
+use Rattle.sync_path.specs.Paths.{Node, path_text}
 use Rattle.treesync.specs.declared.refusal.Refusal.{Refusal}
 use Rattle.treesync.specs.declared.refusal.Refusal.TheVariants.{InvalidArguments, OutOfMemory, ReadFailed, Found}
 use Rattle.treesync.specs.declared.refusal.Finding.{Finding}
-use Rattle.treesync.specs.declared.refusal.Finding.TheVariants.{TooLarge, Text, NoTree, NotTaken}
+use Rattle.treesync.specs.declared.refusal.Finding.TheVariants.{TooLarge, Text, NoTree, NoCommonTree, NoSuchLog, NoCommand, NotDrawn, DoesNotFit, CanAdd, NotTaken}
+use Rattle.tool_words.specs.Operands.{text_at}
 use Rattle.log_text.specs.declared.faults.TextKind.{TextKind}
 use Rattle.log_text.specs.declared.faults.TextKind.TheVariants as kind
 
 abbrev pub finding_status : Finding → ℕ
 finding_status (Text word fault) = 5
 finding_status (NoTree word number) = 6
+finding_status (NoCommonTree first second path) = 7
 finding_status (TooLarge word) = 12
+finding_status (NoSuchLog word number) = 13
+finding_status (NoCommand word number) = 13
+finding_status (NotDrawn word path) = 14
+finding_status (DoesNotFit word path) = 14
+finding_status (CanAdd word log path) = 14
 finding_status (NotTaken word number) = 17
 
 abbrev pub status_of : Refusal → ℕ
@@ -37,12 +45,6 @@ kind_name kind.End = codes "end"
 kind_name kind.Count = codes "count"
 kind_name kind.After = codes "after"
 
--- the word at a place
-abbrev pub word_at : List (List ℕ) → ℕ → List ℕ
-word_at [] place = []
-word_at (word ∷ words) zero = word
-word_at (word ∷ words) (suc place) = word_at words place
-
 -- `treesync: WHAT`
 abbrev pub what_line : List ℕ → List ℕ
 what_line what = concat (codes "treesync: " ∷ what ∷ codes "\n" ∷ [])
@@ -55,15 +57,38 @@ file_line word what = concat (codes "treesync: " ∷ word ∷ codes ": " ∷ wha
 abbrev pub numbered_line : List ℕ → List ℕ → List ℕ → List ℕ
 numbered_line word number what = concat (codes "treesync: " ∷ word ∷ codes ": line " ∷ number ∷ codes ": " ∷ what ∷ codes "\n" ∷ [])
 
--- the line of a finding; a log's command is one line after its number
+-- a line that ends with a path
+abbrev pub line_at : List (List ℕ) → Node → List ℕ
+line_at front path = concat front ++ (path_text path ++ codes "\n")
+
+-- `treesync: logs FIRST and SECOND: no common tree at PATH`
+abbrev pub disagreement_line : ℕ → ℕ → Node → List ℕ
+disagreement_line first second path =
+    line_at (codes "treesync: " ∷ codes "logs " ∷ decimal first ∷ codes " and " ∷ decimal second ∷ codes ": " ∷ codes "no common tree at " ∷ []) path
+
+-- `treesync: WORD: WHAT PATH`
+abbrev pub path_line : List ℕ → List ℕ → Node → List ℕ
+path_line word what path = line_at (codes "treesync: " ∷ word ∷ codes ": " ∷ what ∷ []) path
+
+-- `treesync: WORD: can add log LOG at PATH`
+abbrev pub can_add_line : List ℕ → ℕ → Node → List ℕ
+can_add_line word log path = line_at (codes "treesync: " ∷ word ∷ codes ": " ∷ codes "can add log " ∷ decimal log ∷ codes " at " ∷ []) path
+
+-- the line of a finding; a log's command and a rule are one line after their number
 abbrev pub finding_message : List (List ℕ) → Finding → List ℕ
-finding_message words (TooLarge word) = file_line (word_at words word) (codes "too large")
-finding_message words (Text word fault) = numbered_line (word_at words word) (decimal fault.line) (kind_name fault.kind)
-finding_message words (NoTree word number) = numbered_line (word_at words word) (decimal (number + 1)) (codes "no tree takes this log")
-finding_message words (NotTaken word number) = numbered_line (word_at words word) (decimal (number + 1)) (codes "not taken")
+finding_message words (TooLarge word) = file_line (text_at words word) (codes "too large")
+finding_message words (Text word fault) = numbered_line (text_at words word) (decimal fault.line) (kind_name fault.kind)
+finding_message words (NoTree word number) = numbered_line (text_at words word) (decimal (number + 1)) (codes "no tree takes this log")
+finding_message words (NoCommonTree first second path) = disagreement_line first second path
+finding_message words (NoSuchLog word number) = numbered_line (text_at words word) (decimal (number + 1)) (codes "no such log")
+finding_message words (NoCommand word number) = numbered_line (text_at words word) (decimal (number + 1)) (codes "no such command")
+finding_message words (NotDrawn word path) = path_line (text_at words word) (codes "not drawn at ") path
+finding_message words (DoesNotFit word path) = path_line (text_at words word) (codes "does not fit at ") path
+finding_message words (CanAdd word log path) = can_add_line (text_at words word) log path
+finding_message words (NotTaken word number) = numbered_line (text_at words word) (decimal (number + 1)) (codes "not taken")
 
 abbrev pub message_of : List (List ℕ) → Refusal → List ℕ
 message_of words InvalidArguments = what_line (codes "words refused")
-message_of words (ReadFailed word) = file_line (word_at words word) (codes "read failed")
+message_of words (ReadFailed word) = file_line (text_at words word) (codes "read failed")
 message_of words OutOfMemory = what_line (codes "out of memory")
 message_of words (Found finding) = finding_message words finding

@@ -2,7 +2,6 @@
 use Rattle.std.specs.Prelude.{◌≡◌, ℕ, List, Result, Ok, Err}
 use Rattle.sync_command.specs.declared.commands.Row.{Row}
 use Rattle.sync_command.specs.declared.values.Version.{Version}
-use Rattle.sync_command.specs.declared.values.Version.TheVariants.{One, Two}
 use Rattle.sync_command.specs.Changes.{Change}
 use Rattle.sync_command.specs.Trees.{Takes}
 use Rattle.sync_command.specs.Maps.{Store, at, stored}
@@ -13,16 +12,11 @@ use Rattle.apply_model.specs.declared.faults.RunBreak.TheVariants as run
 use Rattle.log_text.specs.Snapshots.{snapshot_text}
 use Rattle.treesync.specs.Checks.{Check, Judged, Then}
 use Rattle.treesync.specs.Files.{IsSnapshot}
-use Rattle.treesync.specs.Logs.{IsLog, ReadLog}
+use Rattle.treesync.specs.Logs.{IsLog, ReadLog, later_version}
 use Rattle.treesync.specs.declared.logs.TheConstants.{FULL_ALLOWANCE}
 use Rattle.treesync.specs.declared.refusal.Refusal.{Refusal}
 use Rattle.treesync.specs.declared.refusal.Refusal.TheVariants.{OutOfMemory, Found}
 use Rattle.treesync.specs.declared.refusal.Finding.TheVariants.{NotTaken}
-
--- version 2 wherever one of the two is
-abbrev pub later_version : Version → Version → Version
-later_version One v = v
-later_version Two v = Two
 
 -- the command with the number is the first that is not applicable in its turn
 abbrev pub IsRefusedAt : Store → List Change → ℕ → Type 0

@@ -6,9 +6,8 @@ ghost use Rattle.treesync.specs.Canon.{IsCanon, IsNet};
 ghost use Rattle.treesync.specs.Logs.{IsLogFile, IsTotal, ReadLog};
 
 use crate::input::FILE_LIMIT;
-use crate::logs::{FULL_ALLOWANCE, LogFile, Total, read_log};
+use crate::logs::{FULL_ALLOWANCE, LogFile, Total, read_sum};
 use crate::{Finding, Refusal};
-use canon_set::LogSum;
 use log_text::print_log;
 use std::alloc::Global;
 use sync_port::Files;
@@ -37,10 +36,6 @@ pub fn canon<F: Files>(
 ) -> Result<Vec<u8>, Refusal>
     ensures { Answers HasItems (IsCanon word name.now) (FILE_LIMIT ∷ []) (F.files files.old) (F.files files.new) result }
 {
-    let sum = Total {
-        sum: LogSum::new(alloc),
-        broken: None,
-    };
-    let log = read_log(alloc, word, name, FULL_ALLOWANCE, files, sum)?;
+    let log = read_sum(alloc, word, name, FULL_ALLOWANCE, files)?;
     net_text(alloc, word, log)
 }

@@ -37,16 +37,17 @@ pub fn text_refusal(word: usize, fault: LogFault) -> Refusal
     }
 }
 
-/// The bytes of the file `name`, which the word at the place `word` names.
-fn read_file<F: Files>(
+/// The bytes of the file `name`, at most `limit` of them, which the word at the place `word` names.
+pub fn read_file<F: Files>(
     alloc: Global,
     word: usize,
     name: &str,
+    limit: usize,
     files: &mut F,
 ) -> Result<Vec<u8>, Refusal>
-    ensures { Answers HasItems (IsFile FILE_LIMIT word name.now) (FILE_LIMIT ∷ []) (F.files files.old) (F.files files.new) result }
+    ensures { Answers HasItems (IsFile limit word name.now) (limit ∷ []) (F.files files.old) (F.files files.new) result }
 {
-    match read_whole(alloc, files, name, FILE_LIMIT) {
+    match read_whole(alloc, files, name, limit) {
         Ok(bytes) => Ok(bytes),
         Err(WholeFault::ReadFault) => Err(Refusal::ReadFailed { word }),
         Err(WholeFault::TooLarge) => Err(Refusal::Found(Finding::TooLarge { word })),
@@ -79,6 +80,6 @@ pub fn snapshot_file<F: Files>(
     ensures tree { IfOk result (λ r. IsRowTree r.1.items) }
     ensures printable { IfOk result (λ r. AllByRecursion (IsRowOfVersion r.0) r.1.items) }
 {
-    let bytes = read_file(alloc, word, name, files)?;
+    let bytes = read_file(alloc, word, name, FILE_LIMIT, files)?;
     judge_snapshot(alloc, word, &bytes)
 }

@@ -5,7 +5,7 @@ ghost use Rattle.sync_path.specs.Paths.{parts};
 ghost use Rattle.sync_command.specs.Changes.{Change};
 ghost use Rattle.log_text.specs.Logs.{log_of};
 ghost use Rattle.treesync.specs.Checks.{Answers, IsJudged};
-ghost use Rattle.treesync.specs.Logs.{HoldsLog, IsFed, IsLog, IsLogFile, log_answer};
+ghost use Rattle.treesync.specs.Logs.{HoldsLog, IsFed, IsLog, IsLogFile, IsTotal, later_version, log_answer};
 
 use crate::input::{FILE_LIMIT, call_refusal, text_refusal};
 use crate::{Finding, Refusal};
@@ -92,6 +92,16 @@ pub struct LogFile<T> {
     pub version: Version,
     pub count: usize,
     pub commands: T,
+}
+
+/// The version of a text that is made of two: 2 wherever one of them is.
+pub fn later_version(first: Version, second: Version) -> Version
+    ensures { result ≡ later_version first second }
+{
+    match first {
+        Version::One => second,
+        Version::Two => Version::Two,
+    }
 }
 
 /// A log that is being read.
@@ -188,4 +198,22 @@ pub fn read_log<F: Files, T: TakesCommands + Drop>(
         size += count;
     }
     Err(Refusal::Found(Finding::TooLarge { word }))
+}
+
+/// Reads a log as `read_log` does, into the sum of its commands.
+pub fn read_sum<F: Files>(
+    alloc: Global,
+    word: usize,
+    name: &str,
+    allowance: Allowance,
+    files: &mut F,
+) -> Result<LogFile<Total>, Refusal>
+    requires { allowance.bytes ≤ FILE_LIMIT }
+    ensures { Answers (IsLogFile IsTotal) (IsLog allowance word name.now) (allowance.bytes ∷ []) (F.files files.old) (F.files files.new) result }
+{
+    let nothing = Total {
+        sum: LogSum::new(alloc),
+        broken: None,
+    };
+    read_log(alloc, word, name, allowance, files, nothing)
 }

@@ -3,11 +3,15 @@
 
 mod canon;
 mod input;
+mod joining;
 mod logs;
+mod merge;
+mod preferences;
 mod refusal;
 mod replay;
 mod report;
 mod run;
+mod steer;
 #[cfg(test)]
 mod tests;
 

@@ -4,7 +4,7 @@ ghost use Rattle.std.specs.Prelude.{◌≡◌};
 ghost use Rattle.treesync.specs.declared.refusal.Refusal.TheVariants.{OutOfMemory};
 
 use log_text::TextFault;
-use sync_path::NoMemory;
+use sync_path::{NoMemory, Path};
 
 /// Why a job is refused. A kind of refusal stands here by how it is shown to be right: what is wrong with the words
 /// or with what was read follows from them, a call that failed was counted, and memory may run out at any time.
@@ -21,7 +21,7 @@ pub enum Refusal {
     Found(Finding),
 }
 
-/// What is wrong with what was read. Words count from 0, lines and commands from 1.
+/// What is wrong with what was read. Words count from 0; lines, commands, logs and rules from 1.
 #[derive(Debug, Drop)]
 pub enum Finding {
     /// The file is too large.
@@ -30,6 +30,22 @@ pub enum Finding {
     Text { word: usize, fault: TextFault },
     /// No tree takes the log as far as this command.
     NoTree { word: usize, number: usize },
+    /// No tree takes all the logs: the least two that disagree, and the first node at which they do.
+    NoCommonTree {
+        first: u32,
+        second: u32,
+        path: Path,
+    },
+    /// The log that a rule names is none of the job's.
+    NoSuchLog { word: usize, number: usize },
+    /// The log that a rule names has no net command at the rule's path.
+    NoCommand { word: usize, number: usize },
+    /// The set has a command at the path that no log's net set has.
+    NotDrawn { word: usize, path: Path },
+    /// With the set done, the path holds something where it may not.
+    DoesNotFit { word: usize, path: Path },
+    /// The log's net command at the path can be added to the set.
+    CanAdd { word: usize, log: u32, path: Path },
     /// The tree does not take this command of the log.
     NotTaken { word: usize, number: usize },
 }

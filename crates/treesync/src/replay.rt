@@ -4,8 +4,8 @@ ghost use Rattle.std.specs.Prelude.{◌≡◌, ◌∷◌, [], ℕ, List, Ok};
 ghost use Rattle.std.specs.List.{AllByRecursion};
 ghost use Rattle.treesync.specs.Checks.{Answers, HasItems, IsJudged};
 ghost use Rattle.treesync.specs.Files.{HasRows};
-ghost use Rattle.treesync.specs.Logs.{IsLogFile, ReadLog};
-ghost use Rattle.treesync.specs.Replay.{IsReplay, IsAfter, later_version, run_refusal};
+ghost use Rattle.treesync.specs.Logs.{IsLogFile, ReadLog, later_version};
+ghost use Rattle.treesync.specs.Replay.{IsReplay, IsAfter, run_refusal};
 ghost use Rattle.sync_command.specs.declared.commands.Row.{Row};
 ghost use Rattle.sync_command.specs.declared.values.Version.{Version};
 ghost use Rattle.sync_command.specs.Rows.{IsRowTree};
@@ -13,7 +13,7 @@ ghost use Rattle.apply_model.specs.Entries.{rows_of};
 ghost use Rattle.log_text.specs.Snapshots.{IsRowOfVersion, snapshot_text};
 
 use crate::input::{FILE_LIMIT, snapshot_file};
-use crate::logs::{FULL_ALLOWANCE, LogFile, read_log};
+use crate::logs::{FULL_ALLOWANCE, LogFile, later_version, read_log};
 use crate::{Finding, Refusal};
 use apply_model::{RunBreak, TreeMap, replay_owned};
 use log_text::print_snapshot;
@@ -28,16 +28,6 @@ fn refusal_of(word: usize, fault: RunBreak) -> Refusal
     match fault {
         RunBreak::NotTaken { number } => Refusal::Found(Finding::NotTaken { word, number }),
         RunBreak::Memory { .. } => Refusal::OutOfMemory,
-    }
-}
-
-/// The version of a text that is made of two: 2 wherever one of them is.
-fn later_version(first: Version, second: Version) -> Version
-    ensures { result ≡ later_version first second }
-{
-    match first {
-        Version::One => second,
-        Version::Two => Version::Two,
     }
 }
 

@@ -5,15 +5,17 @@ ghost use Rattle.sync_port.specs.States.{IfKnown};
 ghost use Rattle.sync_port.specs.Ports.{SinkFaults};
 ghost use Rattle.sync_port.specs.Sending.{Sends};
 ghost use Rattle.treesync.specs.Ends.{Prints, PrintsAll, Says, line_of};
-ghost use Rattle.treesync.specs.Messages.{status_of, finding_status, message_of, finding_message, what_line, file_line, numbered_line, word_at, kind_name};
+ghost use Rattle.treesync.specs.Messages.{status_of, finding_status, message_of, finding_message, what_line, file_line, numbered_line, line_at, path_line, disagreement_line, can_add_line, kind_name};
+ghost use Rattle.tool_words.specs.Operands.{text_at};
 ghost use Rattle.treesync.specs.Checks.{seen};
 ghost use Rattle.std.specs.List.{concat};
 
 use crate::{Finding, Refusal};
 use itoa::Buffer;
 use log_text::TextKind;
-use sync_port::{Sink, SinkFailed, send};
-use tool_words::texts;
+use sync_path::Path;
+use sync_port::{Sink, SinkFailed, send, send_path};
+use tool_words::{operand_text, texts};
 
 /// The status of a finding.
 fn finding_status(finding: &Finding) -> u8
@@ -22,7 +24,13 @@ fn finding_status(finding: &Finding) -> u8
     match finding {
         Finding::Text { .. } => 5,
         Finding::NoTree { .. } => 6,
+        Finding::NoCommonTree { .. } => 7,
         Finding::TooLarge { .. } => 12,
+        Finding::NoSuchLog { .. } => 13,
+        Finding::NoCommand { .. } => 13,
+        Finding::NotDrawn { .. } => 14,
+        Finding::DoesNotFit { .. } => 14,
+        Finding::CanAdd { .. } => 14,
         Finding::NotTaken { .. } => 17,
     }
 }
@@ -61,18 +69,6 @@ fn kind_text(kind: TextKind) -> &'static str
     }
 }
 
-/// The word at a place, and no text past the last word.
-#[tactic(auto, using(crate::proofs::Sending::word_here, crate::proofs::Sending::no_word))]
-fn word_text(words: &[String], place: usize) -> &str
-    ensures { result.now ≡ word_at (map string_bytes words.now) place }
-{
-    if place < words.len() {
-        words[place].as_str()
-    } else {
-        ""
-    }
-}
-
 /// Sends texts one after another.
 fn send_all<E: Sink>(err: &mut E, texts: &[&[u8]]) -> Result<(), SinkFailed>
     ensures faults { SinkFaults result (E.sink err.old) (E.sink err.new) }
@@ -102,10 +98,10 @@ fn say_of_file<'a, E: Sink>(
     what: &'a str,
 ) -> Result<(), SinkFailed>
     ensures faults { SinkFaults result (E.sink err.old) (E.sink err.new) }
-    ensures contents { IfKnown (E.sink err.old) (E.sink err.new) (Sends (file_line (word_at (map string_bytes words.now) place) what.now) result) }
+    ensures contents { IfKnown (E.sink err.old) (E.sink err.new) (Sends (file_line (text_at (map string_bytes words.now) place) what.now) result) }
 {
     let program: &'a str = texts::PROGRAM;
-    let word: &'a str = word_text(words, place);
+    let word: &'a str = operand_text(words, place);
     let colon: &'a str = texts::COLON;
     let end: &'a str = texts::LINE_END;
     send_all(
@@ -129,20 +125,106 @@ fn say_of_line<E: Sink>(
     what: &str,
 ) -> Result<(), SinkFailed>
     ensures faults { SinkFaults result (E.sink err.old) (E.sink err.new) }
-    ensures contents { IfKnown (E.sink err.old) (E.sink err.new) (Sends (numbered_line (word_at (map string_bytes words.now) place) (decimal number) what.now) result) }
+    ensures contents { IfKnown (E.sink err.old) (E.sink err.new) (Sends (numbered_line (text_at (map string_bytes words.now) place) (decimal number) what.now) result) }
 {
     let mut digits = Buffer::new();
     send_all(
         err,
         &[
             texts::PROGRAM.as_bytes(),
-            word_text(words, place).as_bytes(),
+            operand_text(words, place).as_bytes(),
             texts::LINE.as_bytes(),
             digits.format(number).as_bytes(),
             texts::COLON.as_bytes(),
             what.as_bytes(),
             texts::LINE_END.as_bytes(),
         ],
+    )
+}
+
+/// Sends texts one after another, then a path, and then the end of the line.
+fn send_line_at<E: Sink>(err: &mut E, front: &[&[u8]], path: &Path) -> Result<(), SinkFailed>
+    ensures faults { SinkFaults result (E.sink err.old) (E.sink err.new) }
+    ensures contents { IfKnown (E.sink err.old) (E.sink err.new) (Sends (line_at (map (λ text. text.now) front.now) path.now) result) }
+{
+    send_all(err, front)?;
+    send_path(err, path)?;
+    send(err, texts::LINE_END.as_bytes())
+}
+
+/// Sends the line `treesync: logs FIRST and SECOND: no common tree at PATH`.
+fn say_disagreement<E: Sink>(
+    err: &mut E,
+    first: u32,
+    second: u32,
+    path: &Path,
+) -> Result<(), SinkFailed>
+    ensures faults { SinkFaults result (E.sink err.old) (E.sink err.new) }
+    ensures contents { IfKnown (E.sink err.old) (E.sink err.new) (Sends (disagreement_line first second path.now) result) }
+{
+    let mut first_digits = Buffer::new();
+    let mut second_digits = Buffer::new();
+    send_line_at(
+        err,
+        &[
+            texts::PROGRAM.as_bytes(),
+            texts::LOGS.as_bytes(),
+            first_digits.format(first as u128).as_bytes(),
+            texts::AND.as_bytes(),
+            second_digits.format(second as u128).as_bytes(),
+            texts::COLON.as_bytes(),
+            texts::NO_COMMON_TREE.as_bytes(),
+        ],
+        path,
+    )
+}
+
+/// Sends the line `treesync: WORD: WHAT PATH`, of the word at the place.
+fn say_of_path<E: Sink>(
+    err: &mut E,
+    words: &[String],
+    place: usize,
+    what: &str,
+    path: &Path,
+) -> Result<(), SinkFailed>
+    ensures faults { SinkFaults result (E.sink err.old) (E.sink err.new) }
+    ensures contents { IfKnown (E.sink err.old) (E.sink err.new) (Sends (path_line (text_at (map string_bytes words.now) place) what.now path.now) result) }
+{
+    send_line_at(
+        err,
+        &[
+            texts::PROGRAM.as_bytes(),
+            operand_text(words, place).as_bytes(),
+            texts::COLON.as_bytes(),
+            what.as_bytes(),
+        ],
+        path,
+    )
+}
+
+/// Sends the line `treesync: WORD: can add log LOG at PATH`, of the word at the place.
+fn say_can_add<E: Sink>(
+    err: &mut E,
+    words: &[String],
+    place: usize,
+    log: u32,
+    path: &Path,
+) -> Result<(), SinkFailed>
+    ensures faults { SinkFaults result (E.sink err.old) (E.sink err.new) }
+    ensures contents { IfKnown (E.sink err.old) (E.sink err.new) (Sends (can_add_line (text_at (map string_bytes words.now) place) log path.now) result) }
+{
+    let mut digits = Buffer::new();
+    send_line_at(
+        err,
+        &[
+            texts::PROGRAM.as_bytes(),
+            operand_text(words, place).as_bytes(),
+            texts::COLON.as_bytes(),
+            texts::CAN_ADD_LOG.as_bytes(),
+            digits.format(log as u128).as_bytes(),
+            texts::AT.as_bytes(),
+        ],
+        path,
     )
 }
 
@@ -159,6 +241,24 @@ fn say_finding<E: Sink>(err: &mut E, words: &[String], finding: &Finding) -> Res
         Finding::NoTree { word, number } => {
             say_of_line(err, words, *word, *number as u128 + 1, texts::NO_TREE)
         }
+        Finding::NoCommonTree {
+            first,
+            second,
+            path,
+        } => say_disagreement(err, *first, *second, path),
+        Finding::NoSuchLog { word, number } => {
+            say_of_line(err, words, *word, *number as u128 + 1, texts::NO_SUCH_LOG)
+        }
+        Finding::NoCommand { word, number } => {
+            say_of_line(err, words, *word, *number as u128 + 1, texts::NO_SUCH_COMMAND)
+        }
+        Finding::NotDrawn { word, path } => {
+            say_of_path(err, words, *word, texts::NOT_DRAWN, path)
+        }
+        Finding::DoesNotFit { word, path } => {
+            say_of_path(err, words, *word, texts::DOES_NOT_FIT, path)
+        }
+        Finding::CanAdd { word, log, path } => say_can_add(err, words, *word, *log, path),
         Finding::NotTaken { word, number } => {
             say_of_line(err, words, *word, *number as u128 + 1, texts::NOT_TAKEN)
         }

@@ -2,14 +2,18 @@
 
 ghost use Rattle.std.specs.Prelude.{◌≡◌, ◌⊎◌, None, Ok, map, string_bytes};
 ghost use Rattle.tool_words.specs.Jobs.{job_of};
+ghost use Rattle.tool_words.specs.LogCounts.{HasFewLogs};
 ghost use Rattle.tool_words.specs.Help.{help_text};
 ghost use Rattle.treesync.specs.Checks.{Answers, HasItems, IsJudged, IsOne};
+ghost use Rattle.treesync.specs.Headline.{CompletesMerge, PrintsMerger, PrintsSteered};
 ghost use Rattle.treesync.specs.Jobs.{Finds, IsAnswer, IsJobAnswer, limits_of, outside, Ran, Keeps, NoneFailed};
 
 use crate::Refusal;
 use crate::canon::canon;
+use crate::merge::merge;
 use crate::replay::replay;
 use crate::report::report;
+use crate::steer::steer;
 use std::alloc::Global;
 use sync_port::{Files, Sink};
 use tool_words::{Job, WordFault, help, read_words};
@@ -23,6 +27,7 @@ fn help_answer(alloc: Global) -> Result<Vec<u8>, Refusal>
 
 /// The answer of a job.
 fn job_answer<F: Files>(alloc: Global, job: &Job, files: &mut F) -> Result<Vec<u8>, Refusal>
+    requires { HasFewLogs job.now }
     ensures { Answers HasItems (IsJobAnswer job.now) (limits_of job.now) (F.files files.old) (F.files files.new) result }
 {
     match job {
@@ -40,6 +45,8 @@ fn job_answer<F: Files>(alloc: Global, job: &Job, files: &mut F) -> Result<Vec<u
             )
         }
         Job::Canon { log } => canon(alloc, log.place(), log.as_str(), files),
+        Job::Merge { prefs, logs } => merge(alloc, prefs, logs, files),
+        Job::Steer { set, logs } => steer(alloc, set.place(), set.as_str(), logs, files),
     }
 }
 
@@ -83,6 +90,15 @@ pub fn run<F: Files, O: Sink, E: Sink>(
     ensures one { IsOne (IsAnswer (map string_bytes words.now)) }
     ensures refused { result ≡ 2 → job_of (map string_bytes words.now) ≡ None }
     ensures no_job { job_of (map string_bytes words.now) ≡ None → (result ≡ 2) ⊎ (result ≡ 16) }
+    ensures merges { PrintsMerger (map string_bytes words.now)
+        (outside (F.files files.old) (O.sink out.old) (E.sink err.old))
+        (outside (F.files files.new) (O.sink out.new) (E.sink err.new)) result }
+    ensures steers { PrintsSteered (map string_bytes words.now)
+        (outside (F.files files.old) (O.sink out.old) (E.sink err.old))
+        (outside (F.files files.new) (O.sink out.new) (E.sink err.new)) result }
+    ensures completes { CompletesMerge (map string_bytes words.now)
+        (outside (F.files files.old) (O.sink out.old) (E.sink err.old))
+        (outside (F.files files.new) (O.sink out.new) (E.sink err.new)) result }
     ensures done { result ≡ 0 → NoneFailed
         (outside (F.files files.old) (O.sink out.old) (E.sink err.old))
         (outside (F.files files.new) (O.sink out.new) (E.sink err.new)) }

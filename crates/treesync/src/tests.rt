@@ -84,7 +84,7 @@ const FILE_A: &str = "treesnap 1\na f:1\nend 1\n";
 #[test]
 fn jobs_have_their_answers(rt: HostRuntime) -> Result<(), Fail> {
     let alloc = rt.alloc();
-    let help = "usage: treesync COMMAND WORDS\n  replay SNAP LOG\n  canon LOG\n";
+    let help = "usage: treesync COMMAND WORDS\n  replay SNAP LOG\n  canon LOG\n  merge [--prefs FILE] LOG...\n  steer SET LOG...\n";
     let refused = "treesync: words refused\n";
     let ordered = "treesnap 1\na d\na/b f:\na-b f:1\nend 3\n";
     let turned = "treesnap 1\na d\na-b f:1\na/b f:\nend 3\n";
@@ -324,11 +324,309 @@ fn jobs_have_their_answers(rt: HostRuntime) -> Result<(), Fail> {
     Ok(())
 }
 
+const ONE_TWO: &str = "treelog 1\na/x f:1 f:2\nend 1\n";
+
+const ONE_THREE: &str = "treelog 1\na/x f:1 f:3\nend 1\n";
+
+/// Removes a folder with its file.
+const FOLDER_GONE: &str = "treelog 1\na/x f:1 -\na d -\nend 2\n";
+
+/// Makes a file in that folder.
+const FILE_BESIDE: &str = "treelog 1\na/y - f:2\nend 1\n";
+
+/// Makes a folder of a file, and a file in it.
+const FOLDER_MADE: &str = "treelog 1\na f:1 -\na - d\na/x - f:2\nend 3\n";
+
+const FILE_CHANGED: &str = "treelog 1\na f:1 f:3\nend 1\n";
+
+/// Words, the files `l1` and `l2`, a third text under the names `p` and `m`, the status, and what is written.
+#[test]
+fn merges_have_their_answers(rt: HostRuntime) -> Result<(), Fail> {
+    let alloc = rt.alloc();
+    let both = "treelog 1\na/x f:1 -\na/y - f:2\nend 2\n";
+    for (words, l1, l2, third, status, written) in [
+        ("merge", "", "", "", 2, "treesync: words refused\n"),
+        ("merge l1", NO_COMMANDS, "", "", 0, NO_COMMANDS),
+        ("merge l1 l2 l1", TWO_MADE, TWO_MADE, "", 0, TWO_MADE),
+        ("merge l1 l2", ONE_TWO, ONE_THREE, "", 0, ONE_TWO),
+        (
+            "merge --prefs p l1 l2",
+            ONE_TWO,
+            ONE_THREE,
+            "treeprefs 1\nat 2 a/x\nend 1\n",
+            0,
+            ONE_THREE,
+        ),
+        ("merge l1 l2", FOLDER_GONE, FILE_BESIDE, "", 0, FOLDER_GONE),
+        (
+            "merge --prefs=p l1 l2",
+            FOLDER_GONE,
+            FILE_BESIDE,
+            "treeprefs 1\nat 2 a/y\nend 1\n",
+            0,
+            both,
+        ),
+        (
+            "merge --prefs p l1 l2",
+            FOLDER_MADE,
+            FILE_CHANGED,
+            "treeprefs 1\nat 1 a/x\nat 2 a\nend 2\n",
+            0,
+            "treelog 1\na f:1 d\na/x - f:2\nend 2\n",
+        ),
+        (
+            "merge --prefs p l1 l2",
+            FOLDER_MADE,
+            FILE_CHANGED,
+            "treeprefs 1\nat 2 a\nend 1\n",
+            0,
+            FILE_CHANGED,
+        ),
+        (
+            "merge l1 l2",
+            "treelog 1\na d -\nend 1\n",
+            ONE_TWO,
+            "",
+            7,
+            "treesync: logs 1 and 2: no common tree at a/x\n",
+        ),
+        (
+            "merge l1 l2",
+            "treelog 1\na/x - f:1\nend 1\n",
+            "treelog 1\na - d\nend 1\n",
+            "",
+            7,
+            "treesync: logs 1 and 2: no common tree at a\n",
+        ),
+        (
+            "merge l1 l2",
+            "treelog 1\nt - d\nt d -\nend 2\n",
+            "treelog 2\nt - f:1\nend 1\n",
+            "",
+            0,
+            "treelog 2\nt - f:1\nend 1\n",
+        ),
+        (
+            "merge l1 l2",
+            NO_COMMANDS,
+            "",
+            "",
+            3,
+            "treesync: l2: read failed\n",
+        ),
+        (
+            "merge l1 l2",
+            TORN,
+            TORN,
+            "",
+            6,
+            "treesync: l1: line 3: no tree takes this log\n",
+        ),
+        (
+            "merge --prefs=p l1 l2",
+            FOLDER_GONE,
+            FILE_BESIDE,
+            "treeprefs 1\nat 3 a\nend 1\n",
+            13,
+            "treesync: p: line 2: no such log\n",
+        ),
+        (
+            "merge --prefs p l1 l2",
+            FOLDER_GONE,
+            FILE_BESIDE,
+            "treeprefs 1\nall 2\nat 2 a\nend 2\n",
+            13,
+            "treesync: p: line 3: no such command\n",
+        ),
+        (
+            "merge --prefs p l1 l2",
+            FOLDER_GONE,
+            FILE_BESIDE,
+            "treeprefs 1\nunder 1 zz\nend 1\n",
+            0,
+            FOLDER_GONE,
+        ),
+        (
+            "merge --prefs p l1",
+            NO_COMMANDS,
+            "",
+            "treeprefs 1\nat 0 a\nend 1\n",
+            5,
+            "treesync: p: line 2: number\n",
+        ),
+        (
+            "steer m l1 l2",
+            FOLDER_GONE,
+            FILE_BESIDE,
+            both,
+            0,
+            "treeprefs 1\nat 1 a/x\nat 2 a/y\nend 2\n",
+        ),
+        (
+            "steer m l1 l2",
+            FOLDER_GONE,
+            FILE_BESIDE,
+            "treelog 1\na/x f:1 -\nend 1\n",
+            14,
+            "treesync: m: can add log 1 at a\n",
+        ),
+        (
+            "steer m l1 l2",
+            FOLDER_GONE,
+            FILE_BESIDE,
+            "treelog 1\na d -\nend 1\n",
+            14,
+            "treesync: m: does not fit at a/x\n",
+        ),
+        (
+            "steer m l1 l2",
+            FOLDER_GONE,
+            FILE_BESIDE,
+            "treelog 1\na/q - d\nend 1\n",
+            14,
+            "treesync: m: not drawn at a/q\n",
+        ),
+        (
+            "steer m l1 l2",
+            TORN,
+            FILE_BESIDE,
+            TORN,
+            6,
+            "treesync: m: line 3: no tree takes this log\n",
+        ),
+    ] {
+        let mut files = MemFiles::new(alloc, Vec::new(alloc));
+        for (name, text) in [("l1", l1), ("l2", l2), ("p", third), ("m", third)] {
+            if !text.is_empty() {
+                files.add(name, text.as_bytes())?;
+            }
+        }
+        let got = ran(alloc, words, &mut files, 1000, 1000)?;
+        compare(&rt, &got, status, written.as_bytes());
+    }
+    Ok(())
+}
+
+/// A project folder on three machines: the log of the first.
+const LAPTOP: &str = "treelog 1
+proj/README.md f:Hello%0A f:Hello%20all%0A
+proj/src/main.c f:int%20main; f:int%20main(void);
+proj/src/util.c - f:u1
+proj/src/util.c f:u1 f:u2
+proj/src/a/b f:slash -
+proj/src/a d -
+proj/caf%C3%A9/menu f:tea f:tea%20milk
+proj/docs - d
+proj/docs/index - f:i
+proj/tmp - f:t
+proj/tmp f:t -
+end 11
+";
+
+/// That of the second.
+const DESKTOP: &str = "treelog 1
+proj/README.md f:Hello%0A f:Hello%20you%0A
+proj/src/a/c - f:c
+proj/src/a-b f:dash f:dash2
+proj/docs - f:notes
+proj/100%25 f:full -
+proj/100%25 - d
+proj/100%25/part - f:p
+proj/caf%C3%A9/menu f:tea -
+proj/caf%C3%A9 d -
+proj/src/util.c - f:u2
+end 10
+";
+
+/// That of the third.
+const SERVER: &str = "treelog 1
+proj/100%25 f:full f:fuller
+proj/a%20b.txt f:one -
+proj/notes - d
+proj/notes/a%20b.txt - f:one
+proj/src/main.c f:int%20main; f:int%20main(void);
+proj/src/a/b f:slash f:slash2
+proj/caf%C3%A9/cake - f:yes
+proj/notes/a%20b.txt f:one f:two
+end 8
+";
+
+/// What is preferred of their changes.
+const PREFERRED: &str = "treeprefs 1
+at 2 proj/README.md
+under 3 proj/100%25
+at 2 proj/src/a/c
+all 1
+end 4
+";
+
+/// Their first merger under these rules.
+const MERGED: &str = "treelog 1
+proj/src/a/b f:slash -
+proj/a%20b.txt f:one -
+proj/100%25 f:full f:fuller
+proj/README.md f:Hello%0A f:Hello%20you%0A
+proj/caf%C3%A9/cake - f:yes
+proj/caf%C3%A9/menu f:tea f:tea%20milk
+proj/docs - d
+proj/docs/index - f:i
+proj/notes - d
+proj/notes/a%20b.txt - f:two
+proj/src/a/c - f:c
+proj/src/a-b f:dash f:dash2
+proj/src/main.c f:int%20main; f:int%20main(void);
+proj/src/util.c - f:u2
+end 14
+";
+
+/// The rules that steer to it.
+const STEERED: &str = "treeprefs 1
+at 1 proj/src/a/b
+at 3 proj/a%20b.txt
+at 3 proj/100%25
+at 2 proj/README.md
+at 3 proj/caf%C3%A9/cake
+at 1 proj/caf%C3%A9/menu
+at 1 proj/docs
+at 1 proj/docs/index
+at 3 proj/notes
+at 3 proj/notes/a%20b.txt
+at 2 proj/src/a/c
+at 2 proj/src/a-b
+at 1 proj/src/main.c
+at 1 proj/src/util.c
+end 14
+";
+
+/// Words, the file `p`, and what is printed.
+#[test]
+fn three_machines_are_merged(rt: HostRuntime) -> Result<(), Fail> {
+    let alloc = rt.alloc();
+    for (words, p, written) in [
+        ("merge --prefs p laptop desktop server", PREFERRED, MERGED),
+        ("steer p laptop desktop server", MERGED, STEERED),
+        ("merge --prefs=p laptop desktop server", STEERED, MERGED),
+    ] {
+        let mut files = MemFiles::new(alloc, Vec::new(alloc));
+        for (name, text) in [
+            ("laptop", LAPTOP),
+            ("desktop", DESKTOP),
+            ("server", SERVER),
+            ("p", p),
+        ] {
+            files.add(name, text.as_bytes())?;
+        }
+        let got = ran(alloc, words, &mut files, 1000, 1000)?;
+        compare(&rt, &got, 0, written.as_bytes());
+    }
+    Ok(())
+}
+
 #[test]
 fn short_sinks_take_the_first_bytes(rt: HostRuntime) -> Result<(), Fail> {
     let alloc = rt.alloc();
     let mut files = files_of(alloc, "", NO_COMMANDS, &[])?;
-    let got = ran(alloc, "canon l1", &mut files, 5, 1000)?;
+    let got = ran(alloc, "merge l1", &mut files, 5, 1000)?;
     assert_eq!(rt; got.status, 4);
     assert_eq!(rt; got.printed.as_slice(), b"treel".as_slice());
     assert_eq!(rt; got.said.as_slice(), b"treesync: write failed\n".as_slice());

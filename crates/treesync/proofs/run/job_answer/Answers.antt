@@ -6,3 +6,15 @@ returns-in-Replay g c =
 
 pub returns-in-Canon : goal.returns-in-Canon
 returns-in-Canon g c = rw (c.in-Canon.is, ← c.place.ensures, ← c.as_str-in-Canon.ensures) c.canon.ensures
+
+pub merge-requires : goal.merge-requires
+merge-requires g c = rw c.in-Merge.is at c.requires
+
+pub returns-in-Merge : goal.returns-in-Merge
+returns-in-Merge g c = rw c.in-Merge.is c.merge.ensures
+
+pub steer-requires : goal.steer-requires
+steer-requires g c = rw c.in-Steer.is at c.requires
+
+pub returns-in-Steer : goal.returns-in-Steer
+returns-in-Steer g c = rw (c.in-Steer.is, ← c.place-in-Steer.ensures, ← c.as_str-in-Steer.ensures) c.steer.ensures

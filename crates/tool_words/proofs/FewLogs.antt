@@ -1,0 +1,68 @@
+-- A job of words has at most 64 logs.
+use Rattle.std.proofs.Common.{◌≡◌, ◌&&◌, ◌≤◌, Bool, true, false, nat_le, ℕ, List, [], ◌∷◌, length, Option, None, Some, refl, sym, subst, arith, if◌then◌else◌}
+use Rattle.std.specs.Prelude.{option_and_then}
+use Rattle.std.specs.Option.{option_map}
+use Rattle.std.proofs.lemmas.Bool.Decides.{nat_tests}
+use Rattle.tool_words.specs.Commands.{commands, verb_in}
+use Rattle.tool_words.specs.Jobs.{command_job, is_help, job_of, operands_job}
+use Rattle.tool_words.specs.Logs.{Parts, first_and_logs, first_logs, is_log_count, logs_of, parts_of, prefs_logs}
+use Rattle.tool_words.specs.Words.{Operand, Text, numbered, one_operand, plain_of, two_operands}
+use Rattle.tool_words.specs.declared.commands.Verb.{Verb}
+use Rattle.tool_words.specs.declared.commands.Verb.TheVariants as verb
+use Rattle.tool_words.specs.declared.job.Job.{Job}
+use Rattle.tool_words.specs.declared.job.Job.TheVariants.{Help, Replay, Canon, Merge, Steer}
+use Rattle.tool_words.specs.LogCounts.{HasFewLogs}
+
+-- each job that there is has few logs
+abbrev AllFew : Option Job → Type 0
+AllFew None = Unit {0}
+AllFew (Some job) = HasFewLogs job
+
+few_count : (n : ℕ) → is_log_count n ≡ true → n ≤ 64
+few_count n e = grind (arith, nat_tests)
+
+few_parts : (parts : Option Parts) → AllFew (option_map (λ (p : Parts). Merge p.0 p.1) (option_and_then (λ parts. option_map (λ logs. (parts.0, logs)) (logs_of parts.1)) parts))
+few_parts None = tt
+few_parts (Some parts) = here (is_log_count (length parts.1)) (few_count (length parts.1))
+  where
+    here : (b : Bool) → (b ≡ true → length parts.1 ≤ 64) → AllFew (option_map (λ (p : Parts). Merge p.0 p.1) (option_map (λ logs. (parts.0, logs)) (if b then Some parts.1 else None)))
+    here true h = h refl
+    here false h = tt
+
+few_first : (plain : Option (List Operand)) → AllFew (option_map (λ (pair : Operand × List Operand). Steer pair.0 pair.1) (option_and_then first_and_logs plain))
+few_first None = tt
+few_first (Some []) = tt
+few_first (Some (first ∷ rest)) = here (is_log_count (length rest)) (few_count (length rest))
+  where
+    here : (b : Bool) → (b ≡ true → length rest ≤ 64) → AllFew (option_map (λ (pair : Operand × List Operand). Steer pair.0 pair.1) (option_map (λ logs. (first, logs)) (if b then Some rest else None)))
+    here true h = h refl
+    here false h = tt
+
+few_pair : (o : Option (Operand × Operand)) → AllFew (option_map (λ (pair : Operand × Operand). Replay pair.0 pair.1) o)
+few_pair None = tt
+few_pair (Some pair) = tt
+
+few_one : (o : Option Operand) → AllFew (option_map Canon o)
+few_one None = tt
+few_one (Some log) = tt
+
+few_verb : (v : Verb) (operands : List Operand) → AllFew (operands_job v operands)
+few_verb verb.Replay operands = few_pair (two_operands operands)
+few_verb verb.Canon operands = few_one (one_operand operands)
+few_verb verb.Merge operands = few_parts (parts_of operands)
+few_verb verb.Steer operands = few_first (plain_of operands)
+
+few_found : (v : Option Verb) (operands : List Operand) → AllFew (option_and_then (λ w. operands_job w operands) v)
+few_found None operands = tt
+few_found (Some v) operands = few_verb v operands
+
+few_command : (line : List Operand) → AllFew (command_job line)
+few_command [] = tt
+few_command (name ∷ operands) = few_found (verb_in commands name.text) operands
+
+few_words : (b : Bool) (line : List Operand) → AllFew (if b then Some Help else command_job line)
+few_words true line = tt
+few_words false line = few_command line
+
+pub few_logs : (words : List Text) (job : Job) → job_of words ≡ Some job → HasFewLogs job
+few_logs words job e = subst AllFew e (few_words (is_help words) (numbered 0 words))

@@ -1,0 +1,198 @@
+-- The headline of merging follows from what a run owes.
+use Rattle.std.proofs.Common.{◌≡◌, ◌⊎◌, ◌≤◌, ◌++◌, ◌-◌, Bool, true, false, nat_lt, ℕ, List, [], ◌∷◌, map, length, Option, None, Some, Result, Ok, Err, inl, inr, refl, sym, ap, subst, ◌∙◌, arith, if◌then◌else◌}
+use Rattle.std.specs.List.{AllByRecursion, list_all, sum_by}
+use Rattle.sync_path.specs.Paths.{parts}
+use Rattle.sync_command.specs.Changes.{Change, is_change}
+use Rattle.sync_command.specs.Maps.{Store, at}
+use Rattle.sync_command.specs.declared.values.Version.{Version}
+use Rattle.sync_port.specs.States.{FaultCounted, IfBoth, IfKnown}
+use Rattle.sync_port.specs.Ports.{FileContents, Names, SinkContents, SinkState}
+use Rattle.sync_port.proofs.CallerLemmas.{both_more}
+use Rattle.canon_set.specs.Logs.{all_change}
+use Rattle.canon_set.specs.Sets.{canonical}
+use Rattle.log_text.specs.Logs.{IsCommand, IsLog, log_of, log_text}
+use Rattle.refluent.specs.CommonTrees.{AllChange, HasCommonTree, IsAmong, IsCommonTree}
+use Rattle.refluent.specs.Drawn.{drawn_commands}
+use Rattle.refluent.specs.Joints.{net_sets}
+use Rattle.refluent.specs.Mergers.{IsMerger}
+use Rattle.pref_list.specs.Orders.{first_fault}
+use Rattle.pref_list.specs.Prefs.{IsPrefs, prefs_of, prefs_text}
+use Rattle.pref_list.specs.Ranking.{ranking}
+use Rattle.pref_list.specs.declared.rules.Rule.{Rule}
+use Rattle.pref_list.proofs.CallerLemmas.{drawn_ranked}
+use Rattle.merge_core.specs.Conflicts.{greedy_scan}
+use Rattle.merge_core.specs.FirstMergers.{IsFirstMerger}
+use Rattle.merge_core.specs.Steering.{steering_rules}
+use Rattle.merge_core.proofs.CallerLemmas.{greedy_law, one_first, steer_law}
+use Rattle.tool_words.specs.Jobs.{job_of}
+use Rattle.tool_words.specs.Words.{Operand, Text}
+use Rattle.tool_words.specs.declared.job.Job.{Job}
+use Rattle.tool_words.specs.declared.job.Job.TheVariants.{Merge}
+use Rattle.treesync.specs.Checks.{Check, IsAllowed, IsOne, IsRight, Judged, Next, Then}
+use Rattle.treesync.specs.Ends.{Printed, Prints}
+use Rattle.treesync.specs.Files.{IsFile, file_answer, text_answer}
+use Rattle.treesync.specs.Headline.{CompletesMerge, Gains, GainsMerger, HoldLogs, HoldTexts, HoldsRules, IsMergerOf, PrintsMerger, PrintsSteered, Recorded, all_commands, latest_version, text_of}
+use Rattle.treesync.specs.Jobs.{IsAnswer, IsAnswerOf, Outside, Ran}
+use Rattle.treesync.specs.Joining.{AllTaken, AreTaken, EachTaken, IsJoined, IsLogs, commands_of, joint_version, left_after}
+use Rattle.treesync.specs.Logs.{IsLog as IsLogFrom, ReadLog, later_version, log_answer}
+use Rattle.treesync.specs.Merge.{IsFirstMergerFor, IsMerge, IsMergeOf, IsMerged, IsMergerText}
+use Rattle.treesync.specs.Messages.{finding_status, status_of}
+use Rattle.treesync.specs.Preferences.{ArePreferences, RulesHold, preference_word}
+use Rattle.treesync.specs.declared.input.TheConstants.{FILE_LIMIT}
+use Rattle.treesync.specs.declared.logs.Allowance.{Allowance}
+use Rattle.treesync.specs.declared.logs.TheConstants.{FULL_ALLOWANCE}
+use Rattle.treesync.specs.declared.preferences.TheConstants.{PREFS_LIMIT}
+use Rattle.treesync.specs.declared.refusal.Refusal.{Refusal}
+use Rattle.treesync.specs.declared.refusal.Refusal.TheVariants.{InvalidArguments, OutOfMemory, ReadFailed, Found}
+use Rattle.treesync.specs.declared.refusal.Finding.TheVariants.{TooLarge}
+use Rattle.treesync.proofs.Unique.{answer_one, one_list}
+use Rattle.treesync.proofs.Words.{finding_above}
+use Rattle.treesync.proofs.HeldLogs.{all_change_held, held_logs, held_preferences, logs_read, ok_no_err, one_recorded, one_rules, preferences_read, reads_of, same_commands, same_version}
+
+-- ---- logs that some tree takes together
+
+taken_each : (all : List (List Change)) → HasCommonTree all → (logs : List Recorded) → ((cs : List Change) → IsAmong cs (all_commands logs) → IsAmong cs all) → AreTaken (reads_of logs)
+taken_each all common [] part = tt
+taken_each all common (log ∷ logs) part = (
+  record { map = common.map; tree = common.common.tree; takes = common.common.takes log.commands (part log.commands (inl refl)) },
+  taken_each all common logs (λ cs i. part cs (inr i)),
+)
+
+-- ---- the right answer
+
+right_answer : (held : Names) (prefs : Option Operand) (files : List Operand) (logs : List Recorded) (rules : List Rule) (merger : List Change) → HoldLogs held files logs → HoldsRules held prefs rules → HasCommonTree (all_commands logs) →
+    first_fault (net_sets (all_commands logs)) rules ≡ None → IsFirstMergerFor (all_commands logs) rules merger → IsMerge prefs files held false (Ok (log_text (latest_version logs) (canonical merger)))
+right_answer held prefs files logs rules merger h p common none first =
+    inr (rules, preferences_read held prefs rules p, inr (reads_of logs, logs_read held files logs FULL_ALLOWANCE h.texts h.bytes h.commands, inr (reads_of logs, joined, inr (reads_of logs, (refl, no_fault), (merger, first_read, printed)))))
+  where
+    joined : IsJoined files (reads_of logs) (Ok (reads_of logs))
+    joined = inr (reads_of logs, (refl, taken_each (all_commands logs) common logs (λ cs i. i)), (refl, subst HasCommonTree (sym (same_commands logs)) common))
+
+    no_fault : first_fault (net_sets (commands_of (reads_of logs))) rules ≡ None
+    no_fault = ap (λ l. first_fault (net_sets l) rules) (same_commands logs) ∙ none
+
+    first_read : IsFirstMergerFor (commands_of (reads_of logs)) rules merger
+    first_read = subst (λ l. IsFirstMergerFor l rules merger) (sym (same_commands logs)) first
+
+    printed : log_text (latest_version logs) (canonical merger) ≡ log_text (joint_version (reads_of logs)) (canonical merger)
+    printed = ap (λ v. log_text v (canonical merger)) (sym (same_version logs))
+
+-- what an answer with a text says
+pub record IsPrinted (held : Names) (prefs : Option Operand) (files : List Operand) (text : List ℕ) : Type 0 where
+  pub logs : List Recorded
+  pub rules : List Rule
+  pub hold : HoldLogs held files logs
+  pub prefer : HoldsRules held prefs rules
+  pub common : HasCommonTree (all_commands logs)
+  pub merger : List Change
+  pub first : IsFirstMergerFor (all_commands logs) rules merger
+  pub is : text ≡ log_text (latest_version logs) (canonical merger)
+
+printed_of : (held : Names) (prefs : Option Operand) (files : List Operand) (text : List ℕ) → IsMerge prefs files held false (Ok text) → IsPrinted held prefs files text
+printed_of held prefs files text (inl h) = absurd (ok_no_err h.2)
+printed_of held prefs files text (inr (rules, p, inl h)) = absurd (ok_no_err h.2)
+printed_of held prefs files text (inr (rules, p, inr (reads, l, inl h))) = absurd (ok_no_err h.2)
+printed_of held prefs files text (inr (rules, p, inr (reads, l, inr (joined, inl j, m)))) = absurd (ok_no_err j.2)
+printed_of held prefs files text (inr (rules, p, inr (reads, l, inr (joined, inr j, inl m)))) = absurd (ok_no_err m.2)
+printed_of held prefs files text (inr (rules, p, inr (reads, l, inr (joined, inr j, inr m)))) =
+    let found = held_logs held FULL_ALLOWANCE files reads l in
+    let all : joined ≡ reads = j.2.0 ∙ j.1.0 in
+    let same : m.0 ≡ reads_of found.logs = m.1.0 ∙ all ∙ found.same in
+    let commands : commands_of m.0 ≡ all_commands found.logs = ap commands_of same ∙ same_commands found.logs in
+    record {
+      logs = found.logs;
+      rules = rules;
+      hold = record { texts = found.texts; bytes = found.bytes; commands = found.commands };
+      prefer = held_preferences held prefs rules p;
+      common = subst HasCommonTree (ap commands_of (j.1.0 ∙ found.same) ∙ same_commands found.logs) j.2.1;
+      merger = m.2.0;
+      first = subst (λ l. IsFirstMergerFor l rules m.2.0) commands m.2.1;
+      is = m.2.2 ∙ ap (λ v. log_text v (canonical m.2.0)) (ap joint_version same ∙ same_version found.logs);
+    }
+
+-- ---- the answer of a run
+
+gained : (status : ℕ) (text : List ℕ) (a b : SinkState) → status ≡ 0 → Prints (Ok text) status a b → Gains text a b
+gained status text a b z p = both_more a.contents b.contents p.1 (λ m k w. w.whole z)
+
+-- a run that ended with status 0, over files that are known
+found_text : (words : List Text) (before now : Outside) (m : FileContents) (counted : Type 0) (contents : Option FileContents) (status : ℕ) (answer : Result (List ℕ) Refusal) → status ≡ 0 → contents ≡ Some m →
+    IsAllowed (IsAnswer words) contents counted answer → Prints answer status before.out now.out → (text : List ℕ) × IsAnswer words m.held false (Ok text) × Gains text before.out now.out
+found_text words before now m counted None status answer z e h p = absurd (cc)
+found_text words before now m counted (Some k) status (Ok text) z e h p =
+    let same : k ≡ m = cc in (text, subst (λ x. IsAnswer words x.held false (Ok text)) same h, gained status text before.out now.out z p)
+found_text words before now m counted (Some k) status (Err InvalidArguments) z e h p = absurd (omega (arith, p.0))
+found_text words before now m counted (Some k) status (Err OutOfMemory) z e h p = absurd (omega (arith, p.0))
+found_text words before now m counted (Some k) status (Err (ReadFailed word)) z e h p = absurd (omega (arith, p.0))
+found_text words before now m counted (Some k) status (Err (Found finding)) z e h p = absurd (omega (arith, p.0, finding_above finding))
+
+job_answer : (words : List Text) (job : Job) (held : Names) (answer : Result (List ℕ) Refusal) → job_of words ≡ Some job → IsAnswer words held false answer → IsAnswerOf (Some job) held false answer
+job_answer words job held answer e h = subst (λ j. IsAnswerOf j held false answer) e h
+
+module _ (words : List Text) (before now : Outside) (status : ℕ) (ran : Ran words before now status) where
+  printed_now : (prefs : Option Operand) (files : List Operand) (m : FileContents) → job_of words ≡ Some (Merge prefs files) → before.files.contents ≡ Some m → status ≡ 0 →
+      (text : List ℕ) × IsPrinted m.held prefs files text × Gains text before.out now.out
+  printed_now prefs files m e known z =
+      let found = found_text words before now m (FaultCounted before.files now.files) before.files.contents status ran.answer z known ran.allowed ran.prints in
+      (found.0, printed_of m.held prefs files found.0 (job_answer words (Merge prefs files) m.held (Ok found.0) e found.1), found.2)
+
+  pub prints_merger : PrintsMerger words before now status
+  prints_merger prefs files m e known z =
+      let found = printed_now prefs files m e known z in
+      let p = found.1 in
+      record {
+        logs = p.logs;
+        rules = p.rules;
+        hold = p.hold;
+        prefer = p.prefer;
+        common = p.common;
+        merger = p.merger;
+        is = λ t common. (p.first t common).merger;
+        first = p.first;
+        gains = subst (λ text. Gains text before.out now.out) p.is found.2;
+      }
+
+  pub prints_steered : PrintsSteered words before now status
+  prints_steered prefs files m logs merger e known z hold is prefer =
+      let found = printed_now prefs files m e known z in
+      let p = found.1 in
+      let same_logs = one_recorded m.held files p.logs logs p.hold.texts hold.texts in
+      let common : HasCommonTree (all_commands logs) = subst (λ l. HasCommonTree (all_commands l)) same_logs p.common in
+      let same_rules = one_rules m.held prefs p.rules (steering_rules (all_commands logs) merger) p.prefer prefer in
+      let first : IsFirstMergerFor (all_commands logs) (steering_rules (all_commands logs) merger) p.merger =
+          subst (λ l. IsFirstMergerFor (all_commands l) (steering_rules (all_commands logs) merger) p.merger) same_logs
+          (subst (λ r. IsFirstMergerFor (all_commands p.logs) r p.merger) same_rules p.first) in
+      let here = first common.map common.common in
+      let other = steer_law (all_commands logs) (all_change_held m.held files logs hold.texts) common.map common.common merger (is common.map common.common) in
+      let lists : canonical p.merger ≡ canonical merger =
+          one_list p.merger merger here.merger.fits.one other.merger.fits.one
+          (one_first (at common.map) (drawn_commands (all_commands logs)) (ranking (all_commands logs) (steering_rules (all_commands logs) merger)) p.merger merger
+          (drawn_ranked (all_commands logs) (steering_rules (all_commands logs) merger)) here other) in
+      subst (λ text. Gains text before.out now.out) (p.is ∙ ap (λ l. log_text (latest_version l) (canonical p.merger)) same_logs ∙ ap (log_text (latest_version logs)) lists) found.2
+
+  pub completes_merge : CompletesMerge words before now status
+  completes_merge prefs files m logs rules e known hold prefer common none files_quiet out_quiet =
+      by before.files.contents known ran.answer ran.allowed ran.prints
+    where
+      first : IsFirstMergerFor (all_commands logs) rules (greedy_scan (ranking (all_commands logs) rules) [])
+      first t tree = greedy_law (all_commands logs) (all_change_held m.held files logs hold.texts) t tree rules
+
+      text : List ℕ
+      text = log_text (latest_version logs) (canonical (greedy_scan (ranking (all_commands logs) rules) []))
+
+      right : IsAnswer words m.held false (Ok text)
+      right = subst (λ j. IsAnswerOf j m.held false (Ok text)) (sym e) (right_answer m.held prefs files logs rules (greedy_scan (ranking (all_commands logs) rules) []) hold prefer common none first)
+
+      no_refusal : (r : Refusal) → IsAnswer words m.held false (Err r) → ⊥
+      no_refusal r h = ok_no_err (answer_one words m.held (Ok text) (Err r) right h)
+
+      by : (contents : Option FileContents) → contents ≡ Some m → (answer : Result (List ℕ) Refusal) → IsAllowed (IsAnswer words) contents (FaultCounted before.files now.files) answer → Prints answer status before.out now.out →
+          (status ≡ 0) ⊎ (status ≡ 16)
+      by None k answer h p = absurd (cc)
+      by (Some x) k (Ok t) h (inl z, w) = inl z.0
+      by (Some x) k (Ok t) h (inr z, w) = absurd (out_quiet z.1)
+      by (Some x) k (Err OutOfMemory) h p = inr p.0
+      by (Some x) k (Err InvalidArguments) h p = let same : x ≡ m = cc in absurd (no_refusal InvalidArguments (subst (λ y. IsAnswer words y.held false (Err InvalidArguments)) same h))
+      by (Some x) k (Err (ReadFailed word)) (inl h) p = let same : x ≡ m = cc in absurd (no_refusal (ReadFailed word) (subst (λ y. IsAnswer words y.held false (Err (ReadFailed word))) same h))
+      by (Some x) k (Err (ReadFailed word)) (inr h) p = absurd (files_quiet h.0)
+      by (Some x) k (Err (Found finding)) h p = let same : x ≡ m = cc in absurd (no_refusal (Found finding) (subst (λ y. IsAnswer words y.held false (Err (Found finding))) same h))
