@@ -4,12 +4,14 @@ _treesync() {
   local word=${COMP_WORDS[COMP_CWORD]} place=$((COMP_CWORD - 2)) shape=() kind
   COMPREPLY=()
   if [ "$COMP_CWORD" -eq 1 ]; then
-    mapfile -t COMPREPLY < <(compgen -W "replay canon help" -- "$word")
+    mapfile -t COMPREPLY < <(compgen -W "replay canon merge steer help" -- "$word")
     return
   fi
   case ${COMP_WORDS[1]} in
     replay) shape=(file file) ;;
     canon) shape=(file) ;;
+    merge) shape=(prefs file ...) ;;
+    steer) shape=(file file ...) ;;
     *) return ;;
   esac
   if [ "${shape[0]-}" = prefs ]; then
