@@ -2,7 +2,7 @@
 
 ghost use Rattle.std.specs.Prelude.{◌≡◌, ◌⊎◌, Err, true};
 ghost use Rattle.sync_port.specs.States.{next_number};
-ghost use Rattle.sync_command.specs.Maps.{at};
+ghost use Rattle.sync_command.specs.Maps.{IsTreeMap, at};
 ghost use Rattle.sync_command.specs.Values.{is_dir};
 ghost use Rattle.sync_command.specs.declared.values.Value.TheVariants.{Dir, Empty, File};
 ghost use Rattle.tree_port.specs.Calls.{IsChanging, MakesDir, PutsFile, Removes, SetsLabel};
@@ -288,8 +288,10 @@ impl Tree for FuseTree {
     }
 
     fn changed(&self) -> u64
-        ensures { result ≡ (fuse_state self.now).counts.changes }
+        ensures count { result ≡ (fuse_state self.now).counts.changes }
+        ensures tree { IsTreeMap (fuse_held self.now) }
     {
+        let _alloc = self.map.alloc();
         self.counter.changes()
     }
 }

@@ -37,6 +37,8 @@ impl Tree for MemTree {
     ghost use Rattle.tree_port.specs.Conditions.{AreBelow};
     ghost use Rattle.tree_port.specs.InMemory.{DidNotFail, held_by, mem_state};
 
+    ghost use Rattle.sync_command.specs.Maps.{IsTreeMap};
+
     ghost live = { mem_state };
 
     fn kind(&mut self, path: &Path) -> Result<Kind, TreeFault>
@@ -127,8 +129,10 @@ impl Tree for MemTree {
     }
 
     fn changed(&self) -> u64
-        ensures { result ≡ (mem_state self.now).counts.changes }
+        ensures count { result ≡ (mem_state self.now).counts.changes }
+        ensures tree { IsTreeMap (held_by self.now) }
     {
+        let _alloc = self.map.alloc();
         self.counter.changes()
     }
 }

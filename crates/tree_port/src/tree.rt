@@ -1,6 +1,7 @@
 //! What a live tree is to the rest of the program.
 
 ghost use Rattle.std.specs.Prelude.{◌≡◌, IfOk, option_copied};
+ghost use Rattle.sync_command.specs.Maps.{IsTreeMap};
 ghost use Rattle.tree_port.specs.States.{IfTreeKnown, TreeState, WhereKnown};
 ghost use Rattle.tree_port.specs.Conditions.{AreBelow};
 ghost use Rattle.tree_port.specs.Calls.{GivesBytes, GivesChildren, GivesKind, GivesLabel, IsChanging, IsReading, MakesDir, PutsFile, Removes, SetsLabel, TellsIfHeld};
@@ -72,7 +73,8 @@ pub trait Tree: Drop {
         ensures counts { IsChanging result (live self.old) (live self.new) }
         ensures contents { IfTreeKnown (live self.old) (live self.new) (Removes path.now result) };
 
-    /// How many changes were counted. It can't be refused and takes no memory.
+    /// How many changes were counted. It can't be refused and takes no memory. What is known to be held is a tree.
     fn changed(&self) -> u64
-        ensures { result ≡ (live self.now).counts.changes };
+        ensures count { result ≡ (live self.now).counts.changes }
+        ensures tree { WhereKnown (live self.now) IsTreeMap };
 }
