@@ -1,4 +1,5 @@
 pub mod ApplyLaws
+pub mod Blocking
 pub mod Looking
 pub mod Resuming
 pub mod Stepping

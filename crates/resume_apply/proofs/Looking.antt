@@ -112,6 +112,55 @@ answers_refused {S} {T} s0 s1 s2 e r asked reading sure was = record {
     as_denied : (x : Result T ApplyFault) → x ≡ Err (of_tree e) → x ≡ Err Denied → IsErrOf {T = S} (Err e) tree.Denied
     as_denied x g h = subst (λ x. IsErrOf {T = S} (Err e) x) (is_denied e x g h) refl
 
+-- the same refusal in another answer
+pub asks_as : {S T : Type 0} (s0 s1 : TreeState) (e : ApplyFault) → IsAsking {T = S} (Err e) s0 s1 → IsAsking {T = T} (Err e) s0 s1
+asks_as {S} {T} s0 s1 e asks = record {
+  later = asks.later; contents = asks.contents; changes = asks.changes; answered = go e asks.answered;
+  failed = λ h. asks.failed (again Failed h); denied = λ h. asks.denied (again Denied h); never_denied = held_as s0.contents (λ m f h. f (again Denied h)) asks.never_denied;
+}
+  where
+    err_is : (f : ApplyFault) → ◌≡◌ {A = Result T ApplyFault} (Err e) (Err f) → e ≡ f
+    err_is f h = cc
+
+    again : (f : ApplyFault) → ◌≡◌ {A = Result T ApplyFault} (Err e) (Err f) → ◌≡◌ {A = Result S ApplyFault} (Err e) (Err f)
+    again f h = ap Err (err_is f h)
+
+    go : (e : ApplyFault) → IfAnswered {T = S} (Err e) (NoneRefused s0.counts s1.counts) → IfAnswered {T = T} (Err e) (NoneRefused s0.counts s1.counts)
+    go (Diverged p) h = h
+    go (Blocked p) h = h
+    go Failed h = h
+    go Denied h = h
+    go Memory h = h
+
+-- questions that were answered
+pub asks_done : {T : Type 0} (s0 s1 s2 : TreeState) (x : T) → HasAsked s0 s1 → IsAsking (Ok x) s1 s2 → HasAsked s0 s2
+asks_done s0 s1 s2 x asked asks = record {
+  later = fell_on s0.counts s1.counts s2.counts asked.later asks.later;
+  quiet = quiet_on s0.counts s1.counts s2.counts asked.quiet asks.answered;
+  contents = asks.contents ∙ asked.contents;
+  changes = asks.changes ∙ asked.changes;
+}
+
+-- further questions
+pub asks_then : {T : Type 0} (s0 s1 s2 : TreeState) (r : Result T ApplyFault) → HasAsked s0 s1 → IsAsking r s1 s2 → IsAsking r s0 s2
+asks_then {T} s0 s1 s2 r asked asks = record {
+  later = fell_on s0.counts s1.counts s2.counts asked.later asks.later;
+  contents = asks.contents ∙ asked.contents;
+  changes = asks.changes ∙ asked.changes;
+  answered = go r asks.answered;
+  failed = λ h. let r = asks.failed h in omega (arith, r, asked.later.faults);
+  denied = λ h. let r = asks.denied h in omega (arith, r, asked.later.denials);
+  never_denied = known_on _ s0 s1 asked asks.never_denied;
+}
+  where
+    go : (r : Result T ApplyFault) → IfAnswered r (NoneRefused s1.counts s2.counts) → IfAnswered r (NoneRefused s0.counts s2.counts)
+    go (Ok x) h = quiet_on s0.counts s1.counts s2.counts asked.quiet h
+    go (Err (Diverged p)) h = quiet_on s0.counts s1.counts s2.counts asked.quiet h
+    go (Err (Blocked p)) h = quiet_on s0.counts s1.counts s2.counts asked.quiet h
+    go (Err Failed) h = tt
+    go (Err Denied) h = tt
+    go (Err Memory) h = tt
+
 -- ---- the look at the values
 
 -- the commands before this place hold values of ready, and so much work was counted
@@ -134,7 +183,7 @@ look_begins cs s0 = record {
     nothing : (x : ℕ) → 0 + x ≡ x
     nothing x = omega arith
 
-rest_is : (cs : List Change) (i : ℕ) (c : Change) → i < length cs → c ≡ get_or cs i c → drop i cs ≡ c ∷ drop (i + 1) cs
+pub rest_is : (cs : List Change) (i : ℕ) (c : Change) → i < length cs → c ≡ get_or cs i c → drop i cs ≡ c ∷ drop (i + 1) cs
 rest_is cs i c h is = at_drop_more (λ xs. xs) cs i c h ∙ ap (λ d. d ∷ drop (i + 1) cs) (sym is)
 
 pub look_on : (cs : List Change) (i : ℕ) (c : Change) (s0 s1 s2 : TreeState) (counted k : ℕ) (o : Option ℕ) → i < length cs → c ≡ get_or cs i c → IsLooked cs i s0 s1 counted →

@@ -42,7 +42,7 @@ walk_begins cs s0 ready = record {
 rest_is : (cs : List Change) (i : ℕ) (c : Change) → i < length cs → c ≡ get_or cs i c → drop i cs ≡ c ∷ drop (i + 1) cs
 rest_is cs i c h is = at_drop_more (λ xs. xs) cs i c h ∙ ap (λ d. d ∷ drop (i + 1) cs) (sym is)
 
-command_is : (cs : List Change) (i : ℕ) (c : Change) → one_each cs ≡ true → i < length cs → c ≡ get_or cs i c → command_at cs c.node ≡ Some c
+pub command_is : (cs : List Change) (i : ℕ) (c : Change) → one_each cs ≡ true → i < length cs → c ≡ get_or cs i c → command_at cs c.node ≡ Some c
 command_is cs i c one h is = of_rest i cs one c.node c (ap (λ r. command_at r c.node) (rest_is cs i c h is) ∙ ap (λ b. if b then Some c else command_at (drop (i + 1) cs) c.node) (same_path_refl c.node))
 
 pub walk_can : (cs : List Change) (i : ℕ) (c : Change) (s0 s1 : TreeState) (changes : ℕ) → is_canonical cs ≡ true → IsFitting cs → i < length cs → c ≡ get_or cs i c →

@@ -10,3 +10,4 @@ mod preparing;
 
 pub use self::faults::ApplyFault;
 pub use self::finishing::finish;
+pub use self::preparing::prepare;
