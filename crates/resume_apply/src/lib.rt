@@ -7,6 +7,8 @@ mod faults;
 mod finishing;
 pub mod laws;
 mod preparing;
+#[cfg(test)]
+mod tests;
 
 pub use self::faults::ApplyFault;
 pub use self::finishing::finish;
