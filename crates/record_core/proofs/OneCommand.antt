@@ -1,7 +1,7 @@
 -- One command, call by call, and the first line and the end line.
-use Rattle.std.proofs.Common.{◌≡◌, ◌≤◌, ◌⊎◌, inl, inr, ℕ, ◌+◌, List, [], ◌∷◌, ◌++◌, length, take, Option, Some, None, Ok, Err, refl, sym, ap, subst, ◌∙◌, arith, append_assoc, append-nil, length-append}
+use Rattle.std.proofs.Common.{◌≡◌, ◌≤◌, ◌⊎◌, inl, inr, ℕ, ◌+◌, List, [], ◌∷◌, ◌++◌, length, take, Option, Ok, Err, refl, sym, ap, subst, ◌∙◌, arith, append_assoc, append-nil, length-append}
 use Rattle.std.proofs.Math.Seq.{take-length}
-use Rattle.std.specs.Prelude.{⊤, Result}
+use Rattle.std.specs.Prelude.{⊤}
 use Rattle.std.proofs.lemmas.Grind.{flat_map-append}
 use Rattle.sync_command.specs.declared.values.Version.{Version}
 use Rattle.sync_command.specs.Changes.{Change}
@@ -16,7 +16,7 @@ use Rattle.tree_port.specs.declared.faults.TreeFault.{TreeFault}
 use Rattle.tree_port.specs.declared.faults.TreeFault.TheVariants.{Failed, Denied, Memory}
 use Rattle.record_core.specs.declared.faults.RecordFault.{RecordFault}
 use Rattle.record_core.specs.Texts.{end_line_of, first_line, line_of, lines_of, open_text}
-use Rattle.record_core.specs.Recording.{AfterLines, Begins, Closes, Covers, Ends, GoesOn, InFirst, IsCut, IsRecorded, IsWritten, LeavesOpen, WritesLine}
+use Rattle.record_core.specs.Recording.{AfterLines, Begins, Closes, Covers, GoesOn, InFirst, IsCut, IsRecorded, IsWritten, LeavesOpen, WritesLine}
 
 -- what is known of both, by the contents alone
 abbrev pub BothHeld : Option SinkContents → Option SinkContents → Option Store → Option Store → (SinkContents → SinkContents → Store → Store → Type 0) → Type 0

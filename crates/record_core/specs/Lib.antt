@@ -4,6 +4,7 @@ pub mod Texts
 pub mod Changing
 pub mod Recording
 pub mod Meanings
-pub mod Outcomes
 pub mod Reading
 pub mod Steps
+pub mod Plans
+pub mod Outcomes

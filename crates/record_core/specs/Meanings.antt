@@ -1,5 +1,5 @@
 -- What an operation of a script means on a tree: a list of commands, or the first reason that refuses it.
-use Rattle.std.specs.Prelude.{ℕ, nat_lt, Bool, true, false, not, ◌&&◌, ◌||◌, List, [], ◌∷◌, ◌++◌, length, map, if◌then◌else◌, Option, Some, None, Result, Ok, Err}
+use Rattle.std.specs.Prelude.{nat_lt, Bool, true, false, not, ◌&&◌, ◌||◌, List, [], ◌∷◌, ◌++◌, length, map, if◌then◌else◌, Option, Some, None, Result, Ok, Err}
 use Rattle.std.specs.List.{filter, list_any}
 use Rattle.std.specs.FinMap as finite
 use Rattle.sync_path.specs.declared.names.TheConstants.{MAX_NAMES}
@@ -91,13 +91,16 @@ Test = Bool × Why
 abbrev pub is_too_deep : Nodes → Node → Node → Bool
 is_too_deep s p q = list_any (λ n. nat_lt MAX_NAMES (length (moved n p q))) (subtree s p)
 
-abbrev pub copy_tests : Nodes → Node → Node → List Test
-copy_tests s p q =
+-- the reasons of `copy` and `move`: those of the two places, and last the depth
+abbrev pub place_tests : Nodes → Node → Node → List Test
+place_tests s p q =
     (is_empty (s.held p), Missing) ∷
     (is_under q p, Inside) ∷
     (not (is_empty (s.held q)), Exists) ∷
-    (lacks_parent s q, NoParent) ∷
-    (is_too_deep s p q, TooDeep) ∷ []
+    (lacks_parent s q, NoParent) ∷ []
+
+abbrev pub copy_tests : Nodes → Node → Node → List Test
+copy_tests s p q = place_tests s p q ++ (is_too_deep s p q, TooDeep) ∷ []
 
 -- the reasons of each operation, in the order in which they are looked for
 abbrev pub tests : Nodes → Op → List Test

@@ -1,7 +1,6 @@
 -- What the parts of a recording answer that only read the tree.
 use Rattle.std.specs.Prelude.{◌≡◌, ⊤, IsErrOf, Result, Ok, Err}
-use Rattle.sync_command.specs.Maps.{IsTreeMap}
-use Rattle.tree_port.specs.States.{IsCounted, NoneFell, TreeState, WhereKnown}
+use Rattle.tree_port.specs.States.{IsCounted, NoneFell, TreeState}
 use Rattle.tree_port.specs.declared.faults.TreeFault.{TreeFault}
 use Rattle.tree_port.specs.declared.faults.TreeFault.TheVariants as tree
 use Rattle.record_core.specs.declared.faults.RecordFault.{RecordFault}
@@ -13,11 +12,10 @@ fault_of tree.Failed = TreeFailed
 fault_of tree.Denied = TreeDenied
 fault_of tree.Memory = Memory
 
--- what the tree holds is as before and is a tree, no count fell, and its faults were counted
+-- what the tree holds is as before, no count fell, and its faults were counted
 pub record ReadsTree {T : Type 0} (result : Result T RecordFault) (t u : TreeState) : Type 0 where
   pub later : NoneFell t.counts u.counts
   pub contents : u.contents ≡ t.contents
-  pub tree : WhereKnown t IsTreeMap
   pub failed : IsErrOf result TreeFailed → IsCounted t.counts.faults u.counts.faults
   pub denied : IsErrOf result TreeDenied → IsCounted t.counts.denials u.counts.denials
   pub write : IsErrOf result WriteFault → ⊥

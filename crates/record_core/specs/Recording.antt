@@ -1,5 +1,5 @@
 -- What a recording leaves of a sink and a tree, whatever it answers.
-use Rattle.std.specs.Prelude.{◌≡◌, ◌⊎◌, ◌≤◌, ℕ, List, [], ◌∷◌, ◌++◌, length, take, IsErrOf, Result, Ok, Err}
+use Rattle.std.specs.Prelude.{⊤, ◌≡◌, ◌⊎◌, ◌≤◌, ℕ, List, [], ◌∷◌, ◌++◌, length, take, IsErrOf, Result, Ok, Err}
 use Rattle.sync_command.specs.declared.values.Version.{Version}
 use Rattle.sync_command.specs.Changes.{Change}
 use Rattle.sync_command.specs.Maps.{Store, stored}
@@ -8,7 +8,7 @@ use Rattle.sync_port.specs.Ports.{SinkContents, SinkState}
 use Rattle.sync_port.specs.declared.faults.SinkFailed.{SinkFailed}
 use Rattle.tree_port.specs.States.{IfTreeKnown, IsCounted, NoneFell, TreeState}
 use Rattle.record_core.specs.declared.faults.RecordFault.{RecordFault}
-use Rattle.record_core.specs.declared.faults.RecordFault.TheVariants.{TreeFailed, TreeDenied, WriteFault}
+use Rattle.record_core.specs.declared.faults.RecordFault.TheVariants.{OpRefused, TreeFailed, TreeDenied, WriteFault, TooLarge, Memory}
 use Rattle.record_core.specs.Texts.{first_line, line_of, end_line_of, open_text, closed_text}
 
 -- ---- causes
@@ -20,6 +20,16 @@ pub record HasCause {T : Type 0} (result : Result T RecordFault) (x y : SinkStat
   pub write : IsErrOf result WriteFault → FaultCounted x y
   pub failed : IsErrOf result TreeFailed → IsCounted t.counts.faults u.counts.faults
   pub denied : IsErrOf result TreeDenied → IsCounted t.counts.denials u.counts.denials
+
+-- of the refusals that come before a first command none comes, nor a denial
+abbrev pub StopsInside : {T : Type 0} → Result T RecordFault → Type 0
+StopsInside (Ok x) = ⊤
+StopsInside (Err (OpRefused number why)) = ⊥
+StopsInside (Err TooLarge) = ⊥
+StopsInside (Err TreeDenied) = ⊥
+StopsInside (Err TreeFailed) = ⊤
+StopsInside (Err WriteFault) = ⊤
+StopsInside (Err Memory) = ⊤
 
 -- ---- what is known of both
 

@@ -1,5 +1,5 @@
 -- The text of a script, and the first fault of a text that is none.
-use Rattle.std.specs.Prelude.{◌≡◌, ◌≤◌, ℕ, nat_le, List, [], ◌∷◌, length, codes, if◌then◌else◌, Option, None, Some, Result, Ok, Err}
+use Rattle.std.specs.Prelude.{ℕ, nat_le, List, [], ◌∷◌, length, codes, if◌then◌else◌, Option, None, Some, Result, Ok, Err}
 use Rattle.std.specs.Str.{bytes_eq}
 use Rattle.sync_path.specs.declared.faults.PathFault.{PathFault}
 use Rattle.sync_path.specs.Paths.{Node}

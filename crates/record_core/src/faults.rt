@@ -1,5 +1,10 @@
 //! Why a recording was refused, and why a log was not sealed.
 
+ghost use Rattle.std.specs.Prelude.{◌≡◌};
+ghost use Rattle.record_core.specs.declared.faults.RecordFault.TheVariants.{Memory};
+
+use std::alloc::AllocFailed;
+use sync_path::NoMemory;
 use thiserror::Error;
 
 /// Why an operation is refused on the tree as it is.
@@ -55,4 +60,20 @@ pub enum RecordFault {
     /// Memory ran out.
     #[error("out of memory")]
     Memory,
+}
+
+impl From<NoMemory> for RecordFault {
+    ghost from_gives = { λ _ e. e ≡ Memory };
+
+    fn from(_e: NoMemory) -> RecordFault {
+        RecordFault::Memory
+    }
+}
+
+impl<T: Drop> From<AllocFailed<T>> for RecordFault {
+    ghost from_gives = { λ _ e. e ≡ Memory };
+
+    fn from(_e: AllocFailed<T>) -> RecordFault {
+        RecordFault::Memory
+    }
 }

@@ -1,6 +1,6 @@
 //! The first line of a log, and its end line.
 
-ghost use Rattle.std.specs.Prelude.{◌≡◌, ◌≤◌, IfOk, IsErrOf, IsErr};
+ghost use Rattle.std.specs.Prelude.{◌≡◌, ◌⊎◌, ◌≤◌, IfErr, IfOk, IsErrOf};
 ghost use Rattle.log_text.specs.Frame.{ended, end_line};
 ghost use Rattle.sync_port.specs.States.{FaultCounted, IfKnown};
 ghost use Rattle.record_core.specs.Recording.{Begins, Closes};
@@ -29,7 +29,7 @@ pub(crate) fn open_log<O: Sink>(sink: &mut O, version: Version) -> Result<(), Re
     ensures later { (O.sink sink.old).faults ≤ (O.sink sink.new).faults }
     ensures write { IsErrOf result RecordFault.WriteFault →
         FaultCounted (O.sink sink.old) (O.sink sink.new) }
-    ensures only { IsErr result → IsErrOf result RecordFault.WriteFault }
+    ensures only { IfErr result (λ e. e ≡ RecordFault.WriteFault) }
     ensures contents { IfKnown (O.sink sink.old) (O.sink sink.new) (Begins version result) }
 {
     match write_line(sink, first_line(version)) {
@@ -39,7 +39,7 @@ pub(crate) fn open_log<O: Sink>(sink: &mut O, version: Version) -> Result<(), Re
 }
 
 /// The end line of a log of so many commands.
-fn end_line_of(alloc: Global, count: u64) -> Result<Vec<u8>, NoMemory>
+pub(crate) fn end_line_of(alloc: Global, count: u64) -> Result<Vec<u8>, NoMemory>
     ensures { IfOk result (λ line. line.items ≡ ended (end_line count)) }
 {
     let mut line = Vec::new(alloc);
@@ -48,14 +48,12 @@ fn end_line_of(alloc: Global, count: u64) -> Result<Vec<u8>, NoMemory>
 }
 
 /// Writes the end line of a log of so many commands and flushes it.
-pub(crate) fn close_log<O: Sink>(
-    alloc: Global,
-    sink: &mut O,
-    count: u64,
-) -> Result<(), RecordFault>
+pub(crate) fn close_log<O: Sink>(alloc: Global, sink: &mut O, count: u64) -> Result<(), RecordFault>
     ensures later { (O.sink sink.old).faults ≤ (O.sink sink.new).faults }
     ensures write { IsErrOf result RecordFault.WriteFault →
         FaultCounted (O.sink sink.old) (O.sink sink.new) }
+    ensures fault { IfErr result
+        (λ e. (e ≡ RecordFault.WriteFault) ⊎ (e ≡ RecordFault.Memory)) }
     ensures not_failed { IsErrOf result RecordFault.TreeFailed → ⊥ }
     ensures not_denied { IsErrOf result RecordFault.TreeDenied → ⊥ }
     ensures contents { IfKnown (O.sink sink.old) (O.sink sink.new) (Closes count result) }

@@ -4,15 +4,23 @@
 mod changing;
 mod faults;
 mod framing;
+mod labelling;
 mod limits;
+mod log_size;
+mod measuring;
 mod ops;
+mod planning;
 mod reading;
+mod recording;
 mod script;
 mod stepping;
 mod steps;
+mod subtrees;
+mod walking;
 mod words;
 
 pub use self::faults::{RecordFault, Why};
 pub use self::limits::MAX_LOG_LEN;
 pub use self::ops::Op;
+pub use self::recording::record;
 pub use self::script::read_script;

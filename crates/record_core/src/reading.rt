@@ -3,7 +3,7 @@
 ghost use Rattle.std.specs.Prelude.{◌≡◌, true, false, IfOk, Some, None, Option};
 ghost use Rattle.sync_path.specs.Paths.{Node};
 ghost use Rattle.sync_command.specs.Values.{is_dir, is_empty, kind_of};
-ghost use Rattle.sync_command.specs.Maps.{at};
+ghost use Rattle.sync_command.specs.Maps.{IsTreeMap, at};
 ghost use Rattle.tree_port.specs.States.{WhereKnown};
 ghost use Rattle.tree_port.specs.Conditions.{AreBelow, AreChildren};
 ghost use Rattle.record_core.specs.Meanings.{nodes_of, subtree, lacks_parent};
@@ -31,6 +31,7 @@ fn fault_of(fault: TreeFault) -> RecordFault
 /// The node's kind.
 pub(crate) fn kind_at(tree: &mut Box<dyn Tree>, path: &Path) -> Result<Kind, RecordFault>
     ensures cause { ReadsTree result (live tree.old) (live tree.new) }
+    ensures tree { WhereKnown (live tree.old) IsTreeMap }
     ensures known { WhereKnown (live tree.old)
         (λ m. Finds (λ k. k ≡ kind_of (at m path.now)) result) }
 {
@@ -40,12 +41,38 @@ pub(crate) fn kind_at(tree: &mut Box<dyn Tree>, path: &Path) -> Result<Kind, Rec
     }
 }
 
+/// Whether the node is a directory.
+pub(crate) fn is_dir_at(tree: &mut Box<dyn Tree>, path: &Path) -> Result<bool, RecordFault>
+    ensures cause { ReadsTree result (live tree.old) (live tree.new) }
+    ensures tree { WhereKnown (live tree.old) IsTreeMap }
+    ensures known { WhereKnown (live tree.old)
+        (λ m. Finds (λ b. b ≡ is_dir (at m path.now)) result) }
+{
+    match kind_at(tree, path) {
+        Err(fault) => Err(fault),
+        Ok(Kind::Dir) => Ok(true),
+        Ok(Kind::Empty) => Ok(false),
+        Ok(Kind::File) => Ok(false),
+    }
+}
+
+/// Whether the node is empty.
+pub(crate) fn is_empty_at(tree: &mut Box<dyn Tree>, path: &Path) -> Result<bool, RecordFault>
+    ensures cause { ReadsTree result (live tree.old) (live tree.new) }
+    ensures tree { WhereKnown (live tree.old) IsTreeMap }
+    ensures known { WhereKnown (live tree.old)
+        (λ m. Finds (λ b. b ≡ is_empty (at m path.now)) result) }
+{
+    match kind_at(tree, path) {
+        Err(fault) => Err(fault),
+        Ok(Kind::Empty) => Ok(true),
+        Ok(Kind::Dir) => Ok(false),
+        Ok(Kind::File) => Ok(false),
+    }
+}
+
 /// The contents of a file.
-fn bytes_at(
-    alloc: Global,
-    tree: &mut Box<dyn Tree>,
-    path: &Path,
-) -> Result<Bytes, RecordFault>
+fn bytes_at(alloc: Global, tree: &mut Box<dyn Tree>, path: &Path) -> Result<Bytes, RecordFault>
     requires { WhereKnown (live tree.old) (λ m. kind_of (at m path.now) ≡ Kind.File) }
     ensures cause { ReadsTree result (live tree.old) (live tree.new) }
     ensures known { WhereKnown (live tree.old)
@@ -99,6 +126,7 @@ pub(crate) fn value_at(
     path: &Path,
 ) -> Result<Value, RecordFault>
     ensures cause { ReadsTree result (live tree.old) (live tree.new) }
+    ensures tree { WhereKnown (live tree.old) IsTreeMap }
     ensures known { WhereKnown (live tree.old)
         (λ m. Finds (λ v. v ≡ at m path.now) result) }
 {
@@ -113,5 +141,29 @@ pub(crate) fn value_at(
             Ok(bytes) => Ok(Value::File(bytes)),
             Err(fault) => Err(fault),
         },
+    }
+}
+
+/// The command of a step, as the tree holds it. Where a step reads a node that is empty there is none.
+pub(crate) fn command_of(
+    alloc: Global,
+    tree: &mut Box<dyn Tree>,
+    step: &Step,
+) -> Result<Option<Command>, RecordFault>
+    requires { WhereKnown (live tree.old) (λ m. IsFull (at m) step.now) }
+    ensures cause { ReadsTree result (live tree.old) (live tree.new) }
+    ensures known { WhereKnown (live tree.old)
+        (λ m. Finds (IsChangeOf (at m) step.now) result) }
+{
+    match step {
+        Step::Give(command) => Ok(Some(command.copy(alloc)?)),
+        Step::Make(path, target) => {
+            let value = value_at(alloc, tree, path)?;
+            Ok(Command::new(target.copy(alloc)?, Value::Empty, value).ok())
+        }
+        Step::Clear(path) => {
+            let value = value_at(alloc, tree, path)?;
+            Ok(Command::new(path.copy(alloc)?, value, Value::Empty).ok())
+        }
     }
 }
