@@ -1,8 +1,7 @@
 -- The headline of merging follows from what a run owes.
-use Rattle.std.proofs.Common.{◌≡◌, ◌⊎◌, ◌≤◌, ◌++◌, ◌-◌, Bool, true, false, nat_lt, ℕ, List, [], ◌∷◌, map, length, Option, None, Some, Result, Ok, Err, inl, inr, refl, sym, ap, subst, ◌∙◌, arith, if◌then◌else◌}
+use Rattle.std.proofs.Common.{◌≡◌, ◌⊎◌, ◌≤◌, ◌++◌, ◌+◌, ◌-◌, ◌<◌, ◌||◌, zero, suc, Bool, true, false, nat_lt, ℕ, List, [], ◌∷◌, map, length, Option, None, Some, Result, Ok, Err, inl, inr, refl, sym, ap, subst, ◌∙◌, arith, if◌then◌else◌}
 use Rattle.std.specs.List.{AllByRecursion, list_all, sum_by}
-use Rattle.sync_path.specs.Paths.{parts}
-use Rattle.sync_command.specs.Changes.{Change, is_change}
+use Rattle.sync_command.specs.Changes.{Change, same_change}
 use Rattle.sync_command.specs.Maps.{Store, at}
 use Rattle.sync_command.specs.declared.values.Version.{Version}
 use Rattle.sync_port.specs.States.{FaultCounted, IfBoth, IfKnown}
@@ -10,19 +9,27 @@ use Rattle.sync_port.specs.Ports.{FileContents, Names, SinkContents, SinkState}
 use Rattle.sync_port.proofs.CallerLemmas.{both_more}
 use Rattle.canon_set.specs.Logs.{all_change}
 use Rattle.canon_set.specs.Sets.{canonical}
-use Rattle.log_text.specs.Logs.{IsCommand, IsLog, log_of, log_text}
+use Rattle.log_text.specs.Logs.{IsLog, log_text}
 use Rattle.refluent.specs.CommonTrees.{AllChange, HasCommonTree, IsAmong, IsCommonTree}
-use Rattle.refluent.specs.Drawn.{drawn_commands}
+use Rattle.refluent.specs.Drawn.{drawn_commands, in_turn, nets_in_turn}
 use Rattle.refluent.specs.Joints.{net_sets}
-use Rattle.refluent.specs.Mergers.{IsMerger}
-use Rattle.pref_list.specs.Orders.{first_fault}
-use Rattle.pref_list.specs.Prefs.{IsPrefs, prefs_of, prefs_text}
-use Rattle.pref_list.specs.Ranking.{ranking}
+use Rattle.refluent.specs.Sets.{IsSubset, is_in}
+use Rattle.refluent.proofs.CallerLemmas.{is_in-append, is_in-canonical, is_in-without_repeats, same_change_is, same_change_refl}
+use Rattle.sync_path.specs.Paths.{same_path}
+use Rattle.sync_path.proofs.CallerLemmas.{same_path_refl}
+use Rattle.sync_command.specs.Trees.{command_at, one_each}
+use Rattle.std.proofs.lemmas.Bool.Decides.{nat_tests}
+use Rattle.std.specs.Prelude.{is_some}
+use Rattle.pref_list.specs.Orders.{fault_of, first_fault, first_fault_from, first_of, is_log}
+use Rattle.pref_list.specs.Picks.{first_with, log_of}
+use Rattle.pref_list.specs.declared.faults.RankFault.TheVariants.{NoCommand, NoSuchLog}
+use Rattle.pref_list.specs.Prefs.{IsPrefs, prefs_text}
+use Rattle.pref_list.specs.Ranking.{ranking, set_from}
 use Rattle.pref_list.specs.declared.rules.Rule.{Rule}
-use Rattle.pref_list.proofs.CallerLemmas.{drawn_ranked}
+use Rattle.pref_list.proofs.CallerLemmas.{drawn_ranked, in_turn-nets}
 use Rattle.merge_core.specs.Conflicts.{greedy_scan}
 use Rattle.merge_core.specs.FirstMergers.{IsFirstMerger}
-use Rattle.merge_core.specs.Steering.{steering_rules}
+use Rattle.merge_core.specs.Steering.{at_rule, at_rules, steering_rules}
 use Rattle.merge_core.proofs.CallerLemmas.{greedy_law, one_first, steer_law}
 use Rattle.tool_words.specs.Jobs.{job_of}
 use Rattle.tool_words.specs.Words.{Operand, Text}
@@ -76,6 +83,71 @@ right_answer held prefs files logs rules merger h p common none first =
 
     printed : log_text (latest_version logs) (canonical merger) ≡ log_text (joint_version (reads_of logs)) (canonical merger)
     printed = ap (λ v. log_text v (canonical merger)) (sym (same_version logs))
+
+-- ---- the rules that steer to a merger have no fault
+
+in_some : (cs : List Change) (c : Change) → is_in cs c ≡ true → is_some (command_at cs c.node) ≡ true
+in_some [] c h = absurd (cc (h))
+in_some (d ∷ ds) c h = step (same_path c.node d.node) refl (in_some ds c) h
+  where
+    same_node : same_change c d ≡ true → same_path c.node d.node ≡ true
+    same_node e = ap (λ (x : Change). same_path c.node x.node) (sym (same_change_is c d e)) ∙ same_path_refl c.node
+
+    step : (b : Bool) → same_path c.node d.node ≡ b → (is_in ds c ≡ true → is_some (command_at ds c.node) ≡ true) → is_in (d ∷ ds) c ≡ true → is_some (if b then Some d else command_at ds c.node) ≡ true
+    step true e later i = refl
+    step false e later i = later (rest (same_change c d) refl i)
+      where
+        rest : (a : Bool) → same_change c d ≡ a → (a || is_in ds c) ≡ true → is_in ds c ≡ true
+        rest true f i = let n = same_node f in absurd (cc (e, n))
+        rest false f i = i
+
+-- the first set that has a command
+placed : (sets : List (List Change)) (c : Change) → is_in (in_turn sets) c ≡ true → (first_with sets c < length sets) × (is_in (set_from sets (first_with sets c)) c ≡ true)
+placed [] c e = absurd (cc (e))
+placed (set ∷ sets) c e = step (is_in set c) refl (placed sets c)
+  where
+    rest : is_in set c ≡ false → is_in (in_turn sets) c ≡ true
+    rest f = ap (λ b. b || is_in (in_turn sets) c) (sym f) ∙ sym (is_in-append set (in_turn sets) c) ∙ e
+
+    step : (b : Bool) → is_in set c ≡ b → (is_in (in_turn sets) c ≡ true → (first_with sets c < length sets) × (is_in (set_from sets (first_with sets c)) c ≡ true)) →
+        ((if b then zero else suc (first_with sets c)) < suc (length sets)) × (is_in (set_from (set ∷ sets) (if b then zero else suc (first_with sets c))) c ≡ true)
+    step true f later = (omega arith, f)
+    step false f later = let p = later (rest f) in (omega (arith, p.0), p.1)
+
+no_fault_at : (sets : List (List Change)) (number : ℕ) (c : Change) → is_in (in_turn sets) c ≡ true → fault_of sets number (at_rule sets c) ≡ None
+no_fault_at sets number c e =
+    let p = placed sets c e in
+    both (is_log sets (log_of sets c)) (is_some (command_at (set_from sets (first_with sets c)) c.node)) (is_number (first_with sets c) p.0) (in_some (set_from sets (first_with sets c)) c p.1)
+  where
+    is_number : (k : ℕ) → k < length sets → is_log sets (suc k) ≡ true
+    is_number k low = grind (arith, nat_tests)
+
+    both : (a b : Bool) → a ≡ true → b ≡ true → (if a then (if b then None else Some (NoCommand number)) else Some (NoSuchLog number)) ≡ None
+    both true true f g = refl
+    both true false f g = absurd (cc (g))
+    both false b f g = absurd (cc (f))
+
+no_fault_from : (sets : List (List Change)) (number : ℕ) (cs : List Change) → ((c : Change) → is_in cs c ≡ true → is_in (in_turn sets) c ≡ true) → first_fault_from sets number (at_rules sets cs) ≡ None
+no_fault_from sets number [] part = refl
+no_fault_from sets number (c ∷ cs) part =
+    ap (λ o. first_of o (first_fault_from sets (number + 1) (at_rules sets cs))) (no_fault_at sets number c (part c own)) ∙ no_fault_from sets (number + 1) cs (λ d i. part d (later d i))
+  where
+    or_true : (b : Bool) → (b || true) ≡ true
+    or_true true = refl
+    or_true false = refl
+
+    own : is_in (c ∷ cs) c ≡ true
+    own = ap (λ b. b || is_in cs c) (same_change_refl c)
+
+    later : (d : Change) → is_in cs d ≡ true → is_in (c ∷ cs) d ≡ true
+    later d i = ap (λ b. same_change d c || b) i ∙ or_true (same_change d c)
+
+no_steering_fault : (logs : List (List Change)) (merger : List Change) → one_each merger ≡ true → IsSubset merger (drawn_commands logs) → first_fault (net_sets logs) (steering_rules logs merger) ≡ None
+no_steering_fault logs merger one part =
+    no_fault_from (net_sets logs) 1 (canonical merger) (λ c i.
+    ap (λ l. is_in l c) (in_turn-nets logs) ∙ sym (is_in-without_repeats (nets_in_turn logs) c) ∙ part c (sym (is_in-canonical merger one c) ∙ i))
+
+-- ---- what a printed text is
 
 -- what an answer with a text says
 pub record IsPrinted (held : Names) (prefs : Option Operand) (files : List Operand) (text : List ℕ) : Type 0 where
@@ -152,22 +224,23 @@ module _ (words : List Text) (before now : Outside) (status : ℕ) (ran : Ran wo
         gains = subst (λ text. Gains text before.out now.out) p.is found.2;
       }
 
-  pub prints_steered : PrintsSteered words before now status
-  prints_steered prefs files m logs merger e known z hold is prefer =
+  printed_steered : (prefs : Option Operand) (files : List Operand) (m : FileContents) (logs : List Recorded) (merger : List Change) → job_of words ≡ Some (Merge prefs files) → before.files.contents ≡ Some m → status ≡ 0 →
+      HoldLogs m.held files logs → IsMergerOf (all_commands logs) merger → HoldsRules m.held prefs (steering_rules (all_commands logs) merger) → Gains (log_text (latest_version logs) (canonical merger)) before.out now.out
+  printed_steered prefs files m logs merger e known z hold is prefer =
       let found = printed_now prefs files m e known z in
       let p = found.1 in
       let same_logs = one_recorded m.held files p.logs logs p.hold.texts hold.texts in
       let common : HasCommonTree (all_commands logs) = subst (λ l. HasCommonTree (all_commands l)) same_logs p.common in
       let same_rules = one_rules m.held prefs p.rules (steering_rules (all_commands logs) merger) p.prefer prefer in
       let first : IsFirstMergerFor (all_commands logs) (steering_rules (all_commands logs) merger) p.merger =
-          subst (λ l. IsFirstMergerFor (all_commands l) (steering_rules (all_commands logs) merger) p.merger) same_logs
-          (subst (λ r. IsFirstMergerFor (all_commands p.logs) r p.merger) same_rules p.first) in
+      subst (λ l. IsFirstMergerFor (all_commands l) (steering_rules (all_commands logs) merger) p.merger) same_logs
+      (subst (λ r. IsFirstMergerFor (all_commands p.logs) r p.merger) same_rules p.first) in
       let here = first common.map common.common in
       let other = steer_law (all_commands logs) (all_change_held m.held files logs hold.texts) common.map common.common merger (is common.map common.common) in
       let lists : canonical p.merger ≡ canonical merger =
-          one_list p.merger merger here.merger.fits.one other.merger.fits.one
-          (one_first (at common.map) (drawn_commands (all_commands logs)) (ranking (all_commands logs) (steering_rules (all_commands logs) merger)) p.merger merger
-          (drawn_ranked (all_commands logs) (steering_rules (all_commands logs) merger)) here other) in
+      one_list p.merger merger here.merger.fits.one other.merger.fits.one
+      (one_first (at common.map) (drawn_commands (all_commands logs)) (ranking (all_commands logs) (steering_rules (all_commands logs) merger)) p.merger merger
+      (drawn_ranked (all_commands logs) (steering_rules (all_commands logs) merger)) here other) in
       subst (λ text. Gains text before.out now.out) (p.is ∙ ap (λ l. log_text (latest_version l) (canonical p.merger)) same_logs ∙ ap (log_text (latest_version logs)) lists) found.2
 
   pub completes_merge : CompletesMerge words before now status
@@ -196,3 +269,10 @@ module _ (words : List Text) (before now : Outside) (status : ℕ) (ran : Ran wo
       by (Some x) k (Err (ReadFailed word)) (inl h) p = let same : x ≡ m = cc in absurd (no_refusal (ReadFailed word) (subst (λ y. IsAnswer words y.held false (Err (ReadFailed word))) same h))
       by (Some x) k (Err (ReadFailed word)) (inr h) p = absurd (files_quiet h.0)
       by (Some x) k (Err (Found finding)) h p = let same : x ≡ m = cc in absurd (no_refusal (Found finding) (subst (λ y. IsAnswer words y.held false (Err (Found finding))) same h))
+
+  pub prints_steered : PrintsSteered words before now status
+  prints_steered prefs files m logs merger e known hold common is prefer = (
+    λ z. printed_steered prefs files m logs merger e known z hold is prefer,
+    completes_merge prefs files m logs (steering_rules (all_commands logs) merger) e known hold prefer common
+        (no_steering_fault (all_commands logs) merger (is common.map common.common).fits.one (is common.map common.common).within),
+  )

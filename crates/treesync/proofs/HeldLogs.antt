@@ -65,8 +65,11 @@ module _ (held : Names) where
   log_read : (left : Allowance) (file : Operand) (log : Recorded) → held file.text ≡ Some (text_of log) → IsLog log.version log.commands → length (text_of log) ≤ left.bytes → length log.commands ≤ left.commands →
       IsLogFrom left file.place file.text held false (Ok (read_of log))
   log_read left file log e is bytes commands =
-      inr (text_of log, file_read left.bytes file.place file.text (text_of log) e bytes,
-      sym (ap (log_answer left.commands file.place (length (text_of log))) (log_back log.version log.commands is) ∙ if_not_less left.commands (length log.commands) _ _ commands))
+      inr (
+        text_of log,
+        file_read left.bytes file.place file.text (text_of log) e bytes,
+        sym (ap (log_answer left.commands file.place (length (text_of log))) (log_back log.version log.commands is) ∙ if_not_less left.commands (length log.commands) _ _ commands),
+      )
 
   pub logs_read : (files : List Operand) (logs : List Recorded) (left : Allowance) → HoldTexts held files logs → sum_by (λ log. length (text_of log)) logs ≤ left.bytes → sum_by (λ log. length log.commands) logs ≤ left.commands →
       IsLogs left files held false (Ok (reads_of logs))

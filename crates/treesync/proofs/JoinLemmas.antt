@@ -273,8 +273,7 @@ pub joined_now : (names : List Operand) (logs : LogFiles) (sums : Vec Sum Global
     IsJudged AreSumsOf (EachTaken names reads) (Ok sums) → ((rs : List ReadLog) → AreSumsOf sums rs → IsJudged IsJointOf (AllTaken rs) (Ok joined.joint)) → IsJudged AreJoined (IsJoined names reads) (Ok joined)
 joined_now names logs sums joined reads h v s j =
     let k = j s.0 s.1 in
-    let same : k.0 ≡ reads = k.2.0 ∙ s.2.0 in
-    (
+    let same : k.0 ≡ reads = k.2.0 ∙ s.2.0 in (
       k.0,
       record {
         version = v ∙ ap joint_version (sym same);

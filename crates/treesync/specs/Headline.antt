@@ -92,21 +92,25 @@ PrintsMerger words before now status =
     (prefs : Option Operand) (files : List Operand) (m : FileContents) →
     job_of words ≡ Some (Merge prefs files) → before.files.contents ≡ Some m → status ≡ 0 → GainsMerger m.held prefs files before.out now.out
 
--- Each merger is printed for some preference list: with status 0 for the rules that steer to it.
+-- the status is one of a text or of memory that ran out, unless a fault was counted
+abbrev pub Completes : Outside → Outside → ℕ → Type 0
+Completes before now status =
+    (FaultCounted before.files now.files → ⊥) → (FaultCounted before.out now.out → ⊥) → (status ≡ 0) ⊎ (status ≡ 16)
+
+-- Each merger is printed for some preference list: the rules that steer to it, where some tree takes all the logs.
 abbrev pub PrintsSteered : List Text → Outside → Outside → ℕ → Type 0
 PrintsSteered words before now status =
     (prefs : Option Operand) (files : List Operand) (m : FileContents) (logs : List Recorded) (merger : List Change) →
-    job_of words ≡ Some (Merge prefs files) → before.files.contents ≡ Some m → status ≡ 0 →
-    HoldLogs m.held files logs → IsMergerOf (all_commands logs) merger → HoldsRules m.held prefs (steering_rules (all_commands logs) merger) →
-    Gains (log_text (latest_version logs) (canonical merger)) before.out now.out
+    job_of words ≡ Some (Merge prefs files) → before.files.contents ≡ Some m →
+    HoldLogs m.held files logs → HasCommonTree (all_commands logs) → IsMergerOf (all_commands logs) merger →
+    HoldsRules m.held prefs (steering_rules (all_commands logs) merger) →
+    (status ≡ 0 → Gains (log_text (latest_version logs) (canonical merger)) before.out now.out) × Completes before now status
 
--- Where some tree takes all the logs and the logs have what the rules name, `merge` prints, unless memory runs out or a
--- fault was counted.
+-- Where some tree takes all the logs and the logs have what the rules name, `merge` prints.
 abbrev pub CompletesMerge : List Text → Outside → Outside → ℕ → Type 0
 CompletesMerge words before now status =
     (prefs : Option Operand) (files : List Operand) (m : FileContents) (logs : List Recorded) (rules : List Rule) →
     job_of words ≡ Some (Merge prefs files) → before.files.contents ≡ Some m →
     HoldLogs m.held files logs → HoldsRules m.held prefs rules →
     HasCommonTree (all_commands logs) → first_fault (net_sets (all_commands logs)) rules ≡ None →
-    (FaultCounted before.files now.files → ⊥) → (FaultCounted before.out now.out → ⊥) →
-    (status ≡ 0) ⊎ (status ≡ 16)
+    Completes before now status

@@ -9,7 +9,7 @@ ghost use Rattle.treesync.specs.Logs.{IsLogFile, IsTotal, ReadLog};
 use crate::logs::{Allowance, FULL_ALLOWANCE, LogFile, Total, later_version, read_sum};
 use crate::{Finding, Refusal};
 use canon_set::LogSum;
-use refluent::{Joint, JoinFault, join};
+use refluent::{JoinFault, Joint, join};
 use std::alloc::Global;
 use sync_command::Version;
 use sync_path::NoMemory;
@@ -25,7 +25,10 @@ pub struct JoinedLogs {
 
 /// What is left after a log.
 fn left_after<T>(left: Allowance, log: &LogFile<T>) -> Allowance
-    ensures { result ≡ record { bytes = left.bytes - log.now.size; commands = left.commands - log.now.count } }
+    ensures { result ≡ record {
+      bytes = left.bytes - log.now.size;
+      commands = left.commands - log.now.count;
+    } }
 {
     Allowance {
         bytes: left.bytes.saturating_sub(log.size),
@@ -48,7 +51,8 @@ pub fn read_logs<F: Files>(
     names: &FileList<'_>,
     files: &mut F,
 ) -> Result<Vec<LogFile<Total>>, Refusal>
-    ensures answer { Answers AreLogFiles (IsLogs FULL_ALLOWANCE names.now) (log_limits names.now) (F.files files.old) (F.files files.new) result }
+    ensures answer { Answers AreLogFiles (IsLogs FULL_ALLOWANCE names.now) (log_limits names.now)
+        (F.files files.old) (F.files files.new) result }
     ensures many { IfOk result (λ logs. length logs.items ≡ length names.now) }
 {
     let mut logs = Vec::new(alloc);
@@ -63,7 +67,8 @@ pub fn read_logs<F: Files>(
 
 /// The version of what is printed of logs: 2 wherever one of them is.
 fn joint_version(logs: &[LogFile<Total>]) -> Version
-    ensures { (reads : List ReadLog) → EachStands (IsLogFile IsTotal) logs.now reads → result ≡ joint_version reads }
+    ensures { (reads : List ReadLog) → EachStands (IsLogFile IsTotal) logs.now reads →
+        result ≡ joint_version reads }
 {
     let mut version = Version::One;
     'logs: for log in logs {
@@ -79,7 +84,8 @@ fn sums_of(
     logs: Vec<LogFile<Total>>,
 ) -> Result<Vec<LogSum>, Refusal>
     requires { length logs.items ≡ length names.now }
-    ensures sums { (reads : List ReadLog) → AreLogFiles logs reads → IsJudged AreSumsOf (EachTaken names.now reads) result }
+    ensures sums { (reads : List ReadLog) → AreLogFiles logs reads →
+        IsJudged AreSumsOf (EachTaken names.now reads) result }
     ensures many { IfOk result (λ sums. length sums.items ≡ length logs.items) }
 {
     let mut sums = Vec::new(alloc);
@@ -108,15 +114,18 @@ fn push_sum(sums: &mut Vec<LogSum>, sum: LogSum) -> Result<(), NoMemory>
 /// The joint of logs by their sums, or their first disagreement.
 fn joint_of(alloc: Global, sums: Vec<LogSum>) -> Result<Joint, Refusal>
     requires { length sums.items ≤ MAX_LOGS }
-    ensures { (reads : List ReadLog) → AreSumsOf sums reads → IsJudged IsJointOf (AllTaken reads) result }
+    ensures { (reads : List ReadLog) → AreSumsOf sums reads →
+        IsJudged IsJointOf (AllTaken reads) result }
 {
     match join(alloc, sums) {
         Ok(joint) => Ok(joint),
-        Err(JoinFault::NoCommonTree {
-            first,
-            second,
-            path,
-        }) => Err(Refusal::Found(Finding::NoCommonTree {
+        Err(
+            JoinFault::NoCommonTree {
+                first,
+                second,
+                path,
+            },
+        ) => Err(Refusal::Found(Finding::NoCommonTree {
             first,
             second,
             path,
@@ -134,7 +143,8 @@ pub fn join_logs(
 ) -> Result<JoinedLogs, Refusal>
     requires many { length logs.items ≡ length names.now }
     requires few { length names.now ≤ MAX_LOGS }
-    ensures { (reads : List ReadLog) → AreLogFiles logs reads → IsJudged AreJoined (IsJoined names.now reads) result }
+    ensures { (reads : List ReadLog) → AreLogFiles logs reads →
+        IsJudged AreJoined (IsJoined names.now reads) result }
 {
     let version = joint_version(&logs);
     let sums = sums_of(alloc, names, logs)?;

@@ -23,7 +23,8 @@ use tool_words::{FileList, Word};
 fn merger_text(alloc: Global, logs: &JoinedLogs, ranking: &Ranking) -> Result<Vec<u8>, Refusal>
     requires logs { (reads : List ReadLog) × AreJoined logs.now reads }
     requires ranking { (rules : List Rule) × IsRankingOf logs.now.joint.sets rules ranking.now }
-    ensures { (reads : List ReadLog) (rules : List Rule) → AreJoined logs.now reads → IsRankingOf logs.now.joint.sets rules ranking.now →
+    ensures { (reads : List ReadLog) (rules : List Rule) → AreJoined logs.now reads →
+        IsRankingOf logs.now.joint.sets rules ranking.now →
         IsJudged HasItems (IsMergerText rules reads) result }
 {
     let set = merge_core::merge(alloc, &logs.joint, ranking)?;
@@ -33,14 +34,10 @@ fn merger_text(alloc: Global, logs: &JoinedLogs, ranking: &Ranking) -> Result<Ve
 }
 
 /// The text of the first merger of logs under the rules, which the word at the place `word` names.
-fn merged(
-    alloc: Global,
-    word: usize,
-    rules: &[Rule],
-    logs: &JoinedLogs,
-) -> Result<Vec<u8>, Refusal>
+fn merged(alloc: Global, word: usize, rules: &[Rule], logs: &JoinedLogs) -> Result<Vec<u8>, Refusal>
     requires { (reads : List ReadLog) × AreJoined logs.now reads }
-    ensures { (reads : List ReadLog) → AreJoined logs.now reads → IsJudged HasItems (IsMerged word rules.now reads) result }
+    ensures { (reads : List ReadLog) → AreJoined logs.now reads →
+        IsJudged HasItems (IsMerged word rules.now reads) result }
 {
     let ranking = ranking_under(alloc, word, rules, &logs.joint)?;
     merger_text(alloc, logs, &ranking)
@@ -56,7 +53,8 @@ fn merge_under<F: Files>(
     files: &mut F,
 ) -> Result<Vec<u8>, Refusal>
     requires { length names.now ≤ MAX_LOGS }
-    ensures { Answers HasItems (IsMergeOf word rules.now names.now) (log_limits names.now) (F.files files.old) (F.files files.new) result }
+    ensures { Answers HasItems (IsMergeOf word rules.now names.now) (log_limits names.now)
+        (F.files files.old) (F.files files.new) result }
 {
     let logs = read_logs(alloc, names, files)?;
     let joined = join_logs(alloc, names, logs)?;
@@ -72,7 +70,9 @@ pub fn merge<F: Files>(
     files: &mut F,
 ) -> Result<Vec<u8>, Refusal>
     requires { length names.now ≤ MAX_LOGS }
-    ensures { Answers HasItems (IsMerge prefs.now names.now) (preference_limits prefs.now ++ log_limits names.now) (F.files files.old) (F.files files.new) result }
+    ensures { Answers HasItems (IsMerge prefs.now names.now)
+        (preference_limits prefs.now ++ log_limits names.now)
+        (F.files files.old) (F.files files.new) result }
 {
     let rules = preferences(alloc, prefs, files)?;
     let word = preference_word(prefs);

@@ -41,7 +41,8 @@ fn preference_file<F: Files>(
     name: &str,
     files: &mut F,
 ) -> Result<Vec<Rule>, Refusal>
-    ensures { Answers HasItems (IsPreferenceFile word name.now) (PREFS_LIMIT ∷ []) (F.files files.old) (F.files files.new) result }
+    ensures { Answers HasItems (IsPreferenceFile word name.now) (PREFS_LIMIT ∷ [])
+        (F.files files.old) (F.files files.new) result }
 {
     let bytes = read_file(alloc, word, name, PREFS_LIMIT, files)?;
     judge_preferences(alloc, word, &bytes)
@@ -60,7 +61,8 @@ pub fn preferences<F: Files>(
     prefs: &Option<Word<'_>>,
     files: &mut F,
 ) -> Result<Vec<Rule>, Refusal>
-    ensures { Answers HasItems (ArePreferences prefs.now) (preference_limits prefs.now) (F.files files.old) (F.files files.new) result }
+    ensures { Answers HasItems (ArePreferences prefs.now) (preference_limits prefs.now)
+        (F.files files.old) (F.files files.new) result }
 {
     match prefs {
         Some(file) => preference_file(alloc, file.place(), file.as_str(), files),
@@ -96,7 +98,8 @@ pub fn ranking_under(
     rules: &[Rule],
     joint: &Joint,
 ) -> Result<Ranking, Refusal>
-    ensures ranking { (reads : List ReadLog) → IsJointOf joint.now reads → IsJudged (IsRanked rules.now) (RulesHold word rules.now reads) result }
+    ensures ranking { (reads : List ReadLog) → IsJointOf joint.now reads →
+        IsJudged (IsRanked rules.now) (RulesHold word rules.now reads) result }
     ensures ranked { IfOk result (IsRankingOf joint.now.sets rules.now) }
 {
     match rank(alloc, joint, rules) {

@@ -31,11 +31,7 @@ pub enum Finding {
     /// No tree takes the log as far as this command.
     NoTree { word: usize, number: usize },
     /// No tree takes all the logs: the least two that disagree, and the first node at which they do.
-    NoCommonTree {
-        first: u32,
-        second: u32,
-        path: Path,
-    },
+    NoCommonTree { first: u32, second: u32, path: Path },
     /// The log that a rule names is none of the job's.
     NoSuchLog { word: usize, number: usize },
     /// The log that a rule names has no net command at the rule's path.

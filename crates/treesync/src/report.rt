@@ -250,7 +250,13 @@ fn say_finding<E: Sink>(err: &mut E, words: &[String], finding: &Finding) -> Res
             say_of_line(err, words, *word, *number as u128 + 1, texts::NO_SUCH_LOG)
         }
         Finding::NoCommand { word, number } => {
-            say_of_line(err, words, *word, *number as u128 + 1, texts::NO_SUCH_COMMAND)
+            say_of_line(
+                err,
+                words,
+                *word,
+                *number as u128 + 1,
+                texts::NO_SUCH_COMMAND,
+            )
         }
         Finding::NotDrawn { word, path } => {
             say_of_path(err, words, *word, texts::NOT_DRAWN, path)

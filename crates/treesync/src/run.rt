@@ -74,6 +74,10 @@ fn words_answer<F: Files>(
 /// failed, which changes no status. What the files hold is as before, each file of the job was opened once at most,
 /// and no count of faults falls. Status 16 may come at any time. The words and the bytes under the names of `files`
 /// determine the right answer: there are never two.
+///
+/// Where some tree takes all logs of a `merge`, and they have what the rules name, it prints, unless memory runs out or
+/// a fault was counted, a set of the logs' net commands that fits every tree that takes them all and to which no
+/// further one can be added; and each such set is printed for some rules, those that `steer` prints for it.
 pub fn run<F: Files, O: Sink, E: Sink>(
     alloc: Global,
     words: &[String],

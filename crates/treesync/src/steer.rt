@@ -21,7 +21,8 @@ use tool_words::FileList;
 
 /// The net set of a log, which the word at the place `word` names.
 fn net_set(word: usize, log: LogFile<Total>) -> Result<CanonSet, Refusal>
-    ensures { (read : ReadLog) → IsLogFile IsTotal log read → IsJudged (λ set cs. set ≡ cs) (IsNetSet word read) result }
+    ensures { (read : ReadLog) → IsLogFile IsTotal log read →
+        IsJudged (λ set cs. set ≡ cs) (IsNetSet word read) result }
 {
     let set = match log.commands.broken {
         Some(number) => return Err(Refusal::Found(Finding::NoTree { word, number })),
@@ -58,7 +59,8 @@ fn steering_text(
     set: &CanonSet,
     logs: &JoinedLogs,
 ) -> Result<Vec<u8>, Refusal>
-    ensures { (reads : List ReadLog) → AreJoined logs.now reads → IsJudged HasItems (IsSteered word set.now reads) result }
+    ensures { (reads : List ReadLog) → AreJoined logs.now reads →
+        IsJudged HasItems (IsSteered word set.now reads) result }
 {
     match merge_core::steer(alloc, &logs.joint, set) {
         Ok(rules) => rules_text(alloc, &rules),
@@ -77,8 +79,8 @@ fn steered(
 ) -> Result<Vec<u8>, Refusal>
     requires many { length logs.items ≡ length names.now }
     requires few { length names.now ≤ MAX_LOGS }
-    ensures { (read : ReadLog) (reads : List ReadLog) → IsLogFile IsTotal set read → AreLogFiles logs reads →
-        IsJudged HasItems (IsSteering word names.now read reads) result }
+    ensures { (read : ReadLog) (reads : List ReadLog) → IsLogFile IsTotal set read →
+        AreLogFiles logs reads → IsJudged HasItems (IsSteering word names.now read reads) result }
 {
     let net = net_set(word, set)?;
     let joined = join_logs(alloc, names, logs)?;
@@ -95,7 +97,8 @@ pub fn steer<F: Files>(
     files: &mut F,
 ) -> Result<Vec<u8>, Refusal>
     requires { length names.now ≤ MAX_LOGS }
-    ensures { Answers HasItems (IsSteer (record { text = set.now; place = word }) names.now) (FILE_LIMIT ∷ log_limits names.now) (F.files files.old) (F.files files.new) result }
+    ensures { Answers HasItems (IsSteer (record { text = set.now; place = word }) names.now)
+        (FILE_LIMIT ∷ log_limits names.now) (F.files files.old) (F.files files.new) result }
 {
     let read = read_sum(alloc, word, set, FULL_ALLOWANCE, files)?;
     let logs = read_logs(alloc, names, files)?;

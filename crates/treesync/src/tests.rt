@@ -84,7 +84,8 @@ const FILE_A: &str = "treesnap 1\na f:1\nend 1\n";
 #[test]
 fn jobs_have_their_answers(rt: HostRuntime) -> Result<(), Fail> {
     let alloc = rt.alloc();
-    let help = "usage: treesync COMMAND WORDS\n  replay SNAP LOG\n  canon LOG\n  merge [--prefs FILE] LOG...\n  steer SET LOG...\n";
+    let help =
+        "usage: treesync COMMAND WORDS\n  replay SNAP LOG\n  canon LOG\n  merge [--prefs FILE] LOG...\n  steer SET LOG...\n";
     let refused = "treesync: words refused\n";
     let ordered = "treesnap 1\na d\na/b f:\na-b f:1\nend 3\n";
     let turned = "treesnap 1\na d\na-b f:1\na/b f:\nend 3\n";
