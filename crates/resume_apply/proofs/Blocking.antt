@@ -104,12 +104,15 @@ here_named cs t c d q fitting named up at_q b = named_free cs t c.node q c d fit
 
 pub here_told : (cs : List Change) (t : Holding) (c : Change) (q : Node) → command_at cs c.node ≡ Some c → is_empty c.new ≡ false → parent c.node ≡ Some q → command_at cs q ≡ None → (b : Bool) → b ≡ is_dir (t q) →
     IsTrue (not b) ↔ IsBlocked cs t c.node
-here_told cs t c q named full up at_q b is = (λ h. record {
-  full = ap is_empty (after_at cs t c.node c named) ∙ full;
-  above = q;
-  parent_is = up;
-  no_dir = ap is_dir (after_none cs t q at_q) ∙ sym is ∙ is_false b h;
-}, λ blocked. is_true b (is ∙ sym (ap is_dir (after_none cs t q at_q)) ∙ blocked_flat cs t c.node q up blocked))
+here_told cs t c q named full up at_q b is = (
+  λ h. record {
+    full = ap is_empty (after_at cs t c.node c named) ∙ full;
+    above = q;
+    parent_is = up;
+    no_dir = ap is_dir (after_none cs t q at_q) ∙ sym is ∙ is_false b h;
+  },
+  λ blocked. is_true b (is ∙ sym (ap is_dir (after_none cs t q at_q)) ∙ blocked_flat cs t c.node q up blocked),
+)
   where
     is_false : (b : Bool) → not b ≡ true → b ≡ false
     is_false true h = cc
@@ -169,10 +172,18 @@ unnamed_some cs (q ∷ ps) k e = go (is_none (command_at cs q)) refl e (unnamed_
 
     go : (b : Bool) → is_none (command_at cs q) ≡ b → (if b then Some q else first_unnamed cs ps) ≡ Some k → (first_unnamed cs ps ≡ Some k → IsFirstIn cs ps k) → IsFirstIn cs (q ∷ ps) k
     go true n e rec = record {
-      place = 0; low = omega arith; is = same_above q k e; unnamed = ap (command_at cs) (sym (same_above q k e)) ∙ none_is _ n; first = λ i d low h. absurd (omega arith);
+      place = 0;
+      low = omega arith;
+      is = same_above q k e;
+      unnamed = ap (command_at cs) (sym (same_above q k e)) ∙ none_is _ n;
+      first = λ i d low h. absurd (omega arith);
     }
     go false n e rec = let r = rec e in record {
-      place = suc r.place; low = let h = r.low in omega (arith, h); is = r.is; unnamed = r.unnamed; first = first r;
+      place = suc r.place;
+      low = let h = r.low in omega (arith, h);
+      is = r.is;
+      unnamed = r.unnamed;
+      first = first r;
     }
       where
         first : (r : IsFirstIn cs ps k) → (i : ℕ) (d : Node) → i < suc r.place → command_at cs (get_or (q ∷ ps) i d) ≡ None → ⊥

@@ -67,7 +67,13 @@ known_on P s0 s1 asked h = subst (λ t. IfHeld t P) asked.contents h
 -- an answer of one's own
 pub answers_now : {T : Type 0} (s0 s1 : TreeState) (r : Result T ApplyFault) → HasAsked s0 s1 → (r ≡ Err Failed → ⊥) → (r ≡ Err Denied → ⊥) → IsAsking r s0 s1
 answers_now {T} s0 s1 r asked f d = record {
-  later = asked.later; contents = asked.contents; changes = asked.changes; answered = go r; failed = λ h. absurd (f h); denied = λ h. absurd (d h); never_denied = held_all s0.contents (λ m. d);
+  later = asked.later;
+  contents = asked.contents;
+  changes = asked.changes;
+  answered = go r;
+  failed = λ h. absurd (f h);
+  denied = λ h. absurd (d h);
+  never_denied = held_all s0.contents (λ m. d);
 }
   where
     go : (r : Result T ApplyFault) → IfAnswered r (NoneRefused s0.counts s1.counts)
@@ -115,8 +121,13 @@ answers_refused {S} {T} s0 s1 s2 e r asked reading sure was = record {
 -- the same refusal in another answer
 pub asks_as : {S T : Type 0} (s0 s1 : TreeState) (e : ApplyFault) → IsAsking {T = S} (Err e) s0 s1 → IsAsking {T = T} (Err e) s0 s1
 asks_as {S} {T} s0 s1 e asks = record {
-  later = asks.later; contents = asks.contents; changes = asks.changes; answered = go e asks.answered;
-  failed = λ h. asks.failed (again Failed h); denied = λ h. asks.denied (again Denied h); never_denied = held_as s0.contents (λ m f h. f (again Denied h)) asks.never_denied;
+  later = asks.later;
+  contents = asks.contents;
+  changes = asks.changes;
+  answered = go e asks.answered;
+  failed = λ h. asks.failed (again Failed h);
+  denied = λ h. asks.denied (again Denied h);
+  never_denied = held_as s0.contents (λ m f h. f (again Denied h)) asks.never_denied;
 }
   where
     err_is : (f : ApplyFault) → ◌≡◌ {A = Result T ApplyFault} (Err e) (Err f) → e ≡ f

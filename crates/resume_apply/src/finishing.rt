@@ -11,8 +11,8 @@ ghost use Rattle.resume_apply.specs.Ready.{IsReady, changes_kind};
 ghost use Rattle.resume_apply.specs.Finishing.{CanChange, CanDo, Does, Finishes};
 
 use canon_set::CanonSet;
-use sync_path::Path;
 use sync_command::{Command, Kind, Value};
+use sync_path::Path;
 use tree_port::{Tree, TreeFault};
 
 /// Whether the two values are not empty and of different kinds.

@@ -106,11 +106,7 @@ fn is_dir_at(tree: &mut Box<dyn Tree>, path: &Path) -> Result<bool, TreeFault>
 }
 
 /// The children of a directory.
-fn children_of(
-    tree: &mut Box<dyn Tree>,
-    alloc: Global,
-    path: &Path,
-) -> Result<Vec<Path>, TreeFault>
+fn children_of(tree: &mut Box<dyn Tree>, alloc: Global, path: &Path) -> Result<Vec<Path>, TreeFault>
     ensures reading { IsReading result (live tree.old) (live tree.new) }
     ensures below { IfOk result (λ found. AreBelow (Some path.now) found.items) }
     ensures answer { WhereKnown (live tree.old) (GivesChildren (Some path.now) result) }
@@ -217,11 +213,7 @@ fn first_blocked(
 /// begin or go on. Where there is none, `Blocked` names the first node, in path order, that would be left without a
 /// directory above it. A call of the tree that is refused comes before both. Of the tree only the set's nodes are looked
 /// at, their parents, and the children of those that must be emptied.
-pub fn prepare(
-    alloc: Global,
-    tree: &mut Box<dyn Tree>,
-    set: &CanonSet,
-) -> Result<u64, ApplyFault>
+pub fn prepare(alloc: Global, tree: &mut Box<dyn Tree>, set: &CanonSet) -> Result<u64, ApplyFault>
     ensures asking { IsAsking result (live tree.old) (live tree.new) }
     ensures answer { WhereKnown (live tree.old) (λ m. Finds set.now (at m) result) }
 {

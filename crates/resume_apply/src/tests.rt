@@ -76,8 +76,14 @@ fn text_of(alloc: Global, path: &Path) -> Result<String, Fail> {
 fn apply(alloc: Global, tree: &mut Box<dyn Tree>, set: &CanonSet) -> Result<String, Fail> {
     let work = match prepare(alloc, tree, set) {
         Ok(work) => work,
-        Err(ApplyFault::Diverged { path }) => return Ok(format!(in alloc; "diverged at {}", text_of(alloc, &path)?)?),
-        Err(ApplyFault::Blocked { path }) => return Ok(format!(in alloc; "blocked at {}", text_of(alloc, &path)?)?),
+        Err(ApplyFault::Diverged { path }) => return Ok(format!(in alloc;
+            "diverged at {}",
+            text_of(alloc, &path)?
+        )?),
+        Err(ApplyFault::Blocked { path }) => return Ok(format!(in alloc;
+            "blocked at {}",
+            text_of(alloc, &path)?
+        )?),
         Err(ApplyFault::Failed) => return Ok(format!(in alloc; "failed")?),
         Err(ApplyFault::Denied) => return Ok(format!(in alloc; "denied")?),
         Err(ApplyFault::Memory) => return Ok(format!(in alloc; "memory")?),
@@ -93,7 +99,11 @@ const SWAP: &[Line] = &[("a", "f:3", "d"), ("a/x", "-", "f:2")];
 
 const REMOVAL: &[Line] = &[("a/x", "f:1", "-"), ("a", "d", "-")];
 
-const TO_FILE: &[Line] = &[("a/y", "f:2", "-"), ("a/x", "f:1", "-"), ("a", "d:l", "f:7")];
+const TO_FILE: &[Line] = &[
+    ("a/y", "f:2", "-"),
+    ("a/x", "f:1", "-"),
+    ("a", "d:l", "f:7"),
+];
 
 const RELABELLED: &[Line] = &[("a", "d:x", "d:y")];
 
@@ -101,18 +111,78 @@ const RELABELLED: &[Line] = &[("a", "d:x", "d:y")];
 fn sets_are_applied_whatever_stops_them(rt: HostRuntime) -> Result<(), Fail> {
     let alloc = rt.alloc();
     let cases = [
-        Case { set: SWAP, start: &[("a", "f:3")], answer: "applied 3", end: &[("a", "d"), ("a/x", "f:2")] },
-        Case { set: SWAP, start: &[], answer: "applied 2", end: &[("a", "d"), ("a/x", "f:2")] },
-        Case { set: SWAP, start: &[("a", "d"), ("a/x", "f:2")], answer: "applied 0", end: &[("a", "d"), ("a/x", "f:2")] },
-        Case { set: &[("a/x", "f:1", "f:2")], start: &[("a", "d"), ("a/x", "f:9")], answer: "diverged at a/x", end: &[("a", "d"), ("a/x", "f:9")] },
-        Case { set: REMOVAL, start: &[("a", "d"), ("a/x", "f:1"), ("a/z", "f:5")], answer: "blocked at a/z", end: &[("a/x", "f:1"), ("a/z", "f:5")] },
-        Case { set: REMOVAL, start: &[("a", "d"), ("a/x", "f:9"), ("a/z", "f:5")], answer: "diverged at a/x", end: &[("a/x", "f:9"), ("a/z", "f:5")] },
-        Case { set: REMOVAL, start: &[("a", "d"), ("a/x", "f:1"), ("b", "f:5")], answer: "applied 2", end: &[("a", "-"), ("a/x", "-"), ("b", "f:5")] },
-        Case { set: TO_FILE, start: &[("a", "d:l"), ("a/x", "f:1"), ("a/y", "f:2")], answer: "applied 4", end: &[("a", "f:7"), ("a/x", "-")] },
-        Case { set: RELABELLED, start: &[("a", "d:x"), ("a/x", "f:1")], answer: "applied 1", end: &[("a", "d:y"), ("a/x", "f:1")] },
-        Case { set: RELABELLED, start: &[], answer: "diverged at a", end: &[("a", "-")] },
-        Case { set: &[("b/x", "-", "f:1")], start: &[("a", "d")], answer: "blocked at b/x", end: &[("a", "d"), ("b", "-")] },
-        Case { set: &[], start: &[("a", "d")], answer: "applied 0", end: &[("a", "d")] },
+        Case {
+            set: SWAP,
+            start: &[("a", "f:3")],
+            answer: "applied 3",
+            end: &[("a", "d"), ("a/x", "f:2")],
+        },
+        Case {
+            set: SWAP,
+            start: &[],
+            answer: "applied 2",
+            end: &[("a", "d"), ("a/x", "f:2")],
+        },
+        Case {
+            set: SWAP,
+            start: &[("a", "d"), ("a/x", "f:2")],
+            answer: "applied 0",
+            end: &[("a", "d"), ("a/x", "f:2")],
+        },
+        Case {
+            set: &[("a/x", "f:1", "f:2")],
+            start: &[("a", "d"), ("a/x", "f:9")],
+            answer: "diverged at a/x",
+            end: &[("a", "d"), ("a/x", "f:9")],
+        },
+        Case {
+            set: REMOVAL,
+            start: &[("a", "d"), ("a/x", "f:1"), ("a/z", "f:5")],
+            answer: "blocked at a/z",
+            end: &[("a/x", "f:1"), ("a/z", "f:5")],
+        },
+        Case {
+            set: REMOVAL,
+            start: &[("a", "d"), ("a/x", "f:9"), ("a/z", "f:5")],
+            answer: "diverged at a/x",
+            end: &[("a/x", "f:9"), ("a/z", "f:5")],
+        },
+        Case {
+            set: REMOVAL,
+            start: &[("a", "d"), ("a/x", "f:1"), ("b", "f:5")],
+            answer: "applied 2",
+            end: &[("a", "-"), ("a/x", "-"), ("b", "f:5")],
+        },
+        Case {
+            set: TO_FILE,
+            start: &[("a", "d:l"), ("a/x", "f:1"), ("a/y", "f:2")],
+            answer: "applied 4",
+            end: &[("a", "f:7"), ("a/x", "-")],
+        },
+        Case {
+            set: RELABELLED,
+            start: &[("a", "d:x"), ("a/x", "f:1")],
+            answer: "applied 1",
+            end: &[("a", "d:y"), ("a/x", "f:1")],
+        },
+        Case {
+            set: RELABELLED,
+            start: &[],
+            answer: "diverged at a",
+            end: &[("a", "-")],
+        },
+        Case {
+            set: &[("b/x", "-", "f:1")],
+            start: &[("a", "d")],
+            answer: "blocked at b/x",
+            end: &[("a", "d"), ("b", "-")],
+        },
+        Case {
+            set: &[],
+            start: &[("a", "d")],
+            answer: "applied 0",
+            end: &[("a", "d")],
+        },
     ];
     for case in &cases {
         let set = set_of(alloc, case.set)?;
@@ -127,13 +197,18 @@ fn sets_are_applied_whatever_stops_them(rt: HostRuntime) -> Result<(), Fail> {
                 let first = apply(alloc, &mut tree, &set)?;
                 if first.as_str() == "failed" {
                     let again = apply(alloc, &mut tree, &set)?;
-                    assert_eq!(rt; again.as_str().starts_with("applied"), case.answer.starts_with("applied"));
+                    assert_eq!(rt;
+                        again.as_str().starts_with("applied"),
+                        case.answer.starts_with("applied")
+                    );
                 } else {
                     assert_eq!(rt; first.as_str(), case.answer);
                 }
                 assert!(rt; tree.changed() <= work);
                 // a shot that no call of the runs met may meet this look, once
-                assert!(rt; holds_all(alloc, &mut tree, case.end)? || holds_all(alloc, &mut tree, case.end)?);
+                assert!(rt;
+                    holds_all(alloc, &mut tree, case.end)? || holds_all(alloc, &mut tree, case.end)?
+                );
             }
         }
     }

@@ -143,4 +143,3 @@ label_set m n p b x k r e h same tree puts = puts_by _ _ p (Dir b) r m n (can_la
 pub node_removed : (m n : Store) (p : Node) (k : Kind) (r : Result (Unit {0}) TreeFault) → k ≡ kind_of (at m p) → (k ≡ kind.Empty → ⊥) → IsTreeMap m →
     Puts (IsTree (put (at m) p Empty)) p Empty r m n → Puts (CanRemove (at m) p) p Empty r m n
 node_removed m n p k r e h tree puts = puts_by _ _ p Empty r m n (can_remove m p tree (full_kind (at m p) k e h)) puts
-

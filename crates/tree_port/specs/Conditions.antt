@@ -4,7 +4,6 @@ use Rattle.sync_path.specs.Paths.{Node, parent}
 use Rattle.sync_command.specs.Values.{is_dir, is_empty}
 use Rattle.sync_command.specs.Trees.{Holding}
 use Rattle.apply_model.specs.Parents.{IsBelowDir}
-
 -- what `children` lists
 pub use Rattle.apply_model.specs.Children.{AreBelow, AreChildren}
 

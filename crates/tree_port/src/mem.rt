@@ -36,7 +36,6 @@ impl Tree for MemTree {
     ghost use Rattle.tree_port.specs.Calls.{GivesBytes, GivesChildren, GivesKind, GivesLabel, IsChanging, IsReading, MakesDir, PutsFile, Removes, SetsLabel, TellsIfHeld};
     ghost use Rattle.tree_port.specs.Conditions.{AreBelow};
     ghost use Rattle.tree_port.specs.InMemory.{DidNotFail, held_by, mem_state};
-
     ghost use Rattle.sync_command.specs.Maps.{IsTreeMap};
 
     ghost live = { mem_state };

@@ -80,7 +80,9 @@ pub(super) fn read_bytes<R: std::rt::Files>(
         if count == 0 {
             return Ok(bytes);
         }
-        bytes.extend_from_slice(&piece[..count]).map_err(out_of_memory)?;
+        bytes
+            .extend_from_slice(&piece[..count])
+            .map_err(out_of_memory)?;
     }
     Err(TreeFault::Failed)
 }

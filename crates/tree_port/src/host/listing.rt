@@ -49,7 +49,9 @@ fn take_names(
             if found.len() >= MAX_LISTED {
                 return Err(TreeFault::Failed);
             }
-            found.push(below(alloc, above, name)?).map_err(|_| TreeFault::Memory)?;
+            found
+                .push(below(alloc, above, name)?)
+                .map_err(|_| TreeFault::Memory)?;
         }
     }
     Ok(())

@@ -54,7 +54,12 @@ fn lists<T: Tree>(
 }
 
 /// Does the step; an answer of yes or no is `Denied` where it is no.
-fn take<T: Tree>(tree: &mut T, alloc: Global, node: &Path, step: &Step) -> Result<Result<(), TreeFault>, Fail> {
+fn take<T: Tree>(
+    tree: &mut T,
+    alloc: Global,
+    node: &Path,
+    step: &Step,
+) -> Result<Result<(), TreeFault>, Fail> {
     let told = match step {
         Step::Put(text) => return Ok(put(tree, node, &value(alloc, text)?)),
         Step::Label(text) => match value(alloc, text)? {
@@ -77,7 +82,11 @@ fn take<T: Tree>(tree: &mut T, alloc: Global, node: &Path, step: &Step) -> Resul
 fn a_folder_serves_as_a_tree(rt: HostRuntime) -> Result<(), Fail> {
     let alloc = rt.alloc();
     let place = std::env::temp_dir(&rt)?;
-    let folder = format!(in alloc; "{}/treesync-tree-{}", place.display(), std::process::id(rt.process()))?;
+    let folder = format!(in alloc;
+        "{}/treesync-tree-{}",
+        place.display(),
+        std::process::id(rt.process())
+    )?;
     let inside = |name: &str| format!(in alloc; "{}/{}", folder, name);
     fs::create_dir(&rt, folder.as_str())?;
     // what a run that was stopped may leave

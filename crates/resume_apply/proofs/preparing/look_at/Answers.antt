@@ -8,10 +8,10 @@ use Rattle.resume_apply.proofs.preparing.look_at.Goals as goal
 pub returns-clause-answer : goal.returns-clause-answer
 returns-clause-answer g c =
     let here : WhereKnown ((goal.Tree-dyn g (c.args.tree.now.vtable, c.args.tree.now.value)).live c.args.tree.now.value) (λ m. LooksHere c.args.set.now (at m) c.args.command.now c.args.first.now c.if-branch.first) =
-            elim c.if-branch.branch [
-              | then-branch+in_ok-copy w ↦ here_kept_all c.args.set.now c.args.command.now c.in_ok-is_left_alone.field-0 w.in_ok-copy.field-0 c.args.first.now c.if-branch.first _ _ w.if-branch.true (w.in_ok-copy.ensures ∙ w.path.ensures) w.keep_first.ensures w.first-is c.in_ok-is_left_alone.ensures.answer
-              | else-branch w ↦ here_passed_all c.args.set.now c.args.command.now c.in_ok-is_left_alone.field-0 c.args.first.now c.if-branch.first _ w.if-branch.false w.first-is c.in_ok-is_left_alone.ensures.answer
-            ] in
+    elim c.if-branch.branch [
+      | then-branch+in_ok-copy w ↦ here_kept_all c.args.set.now c.args.command.now c.in_ok-is_left_alone.field-0 w.in_ok-copy.field-0 c.args.first.now c.if-branch.first _ _ w.if-branch.true (w.in_ok-copy.ensures ∙ w.path.ensures) w.keep_first.ensures w.first-is c.in_ok-is_left_alone.ensures.answer
+      | else-branch w ↦ here_passed_all c.args.set.now c.args.command.now c.in_ok-is_left_alone.field-0 c.args.first.now c.if-branch.first _ w.if-branch.false w.first-is c.in_ok-is_left_alone.ensures.answer
+    ] in
     elim c.match-branch-4.branch [
       | in-Some w ↦ below_kept_all c.args.set.now c.args.command.now c.in_ok-path.field-0 w.in-Some.path c.args.first.now c.if-branch.first c.match-branch-4.first _ _ _ w.in-Some.is w.keep_first-in-Some.ensures w.first-is c.in_ok-is_left_alone.ensures.asking.contents here c.in_ok-path.ensures.answer
       | in-None w ↦ below_passed_all c.args.set.now c.args.command.now c.in_ok-path.field-0 c.args.first.now c.if-branch.first c.match-branch-4.first _ _ w.in-None.is w.first-is c.in_ok-is_left_alone.ensures.asking.contents here c.in_ok-path.ensures.answer

@@ -18,7 +18,7 @@ pub returns-in-Ok : goal.returns-in-Ok
 returns-in-Ok g c =
     let in_set = in_set _ _ _ _ c.commands-commands.ensures.commands c.values-test.true c.command-item.is in
     let found = look_diverged c.args.set.now c.values.command-index c.command-item.result _ _ _ c.values.work c.in-Ok-None.field-0 c.in-Ok.path in_set.0 in_set.1 c.values.invariant c.in-Ok-None.field-0-is
-            c.in-Ok-None.ensures.reading c.in-Ok-None.ensures.answer (c.in-Ok.ensures ∙ c.path.ensures) in
+    c.in-Ok-None.ensures.reading c.in-Ok-None.ensures.answer (c.in-Ok.ensures ∙ c.path.ensures) in
     record { asking = found.0; answer = found.1 }
 
 pub returns-in-Err-copy : goal.returns-in-Err-copy
