@@ -1,11 +1,11 @@
 -- A job of words has at most 64 logs.
-use Rattle.std.proofs.Common.{◌≡◌, ◌≤◌, Bool, true, false, ℕ, List, [], ◌∷◌, length, Option, None, Some, refl, subst, arith, if◌then◌else◌}
+use Rattle.std.proofs.Common.{◌≡◌, ◌&&◌, ◌≤◌, Bool, true, false, nat_le, ℕ, List, [], ◌∷◌, length, Option, None, Some, refl, sym, subst, arith, if◌then◌else◌}
 use Rattle.std.specs.Prelude.{option_and_then}
 use Rattle.std.specs.Option.{option_map}
 use Rattle.std.proofs.lemmas.Bool.Decides.{nat_tests}
 use Rattle.tool_words.specs.Commands.{commands, verb_in}
 use Rattle.tool_words.specs.Jobs.{command_job, is_help, job_of, operands_job}
-use Rattle.tool_words.specs.Logs.{Parts, first_and_logs, is_log_count, logs_of, parts_of}
+use Rattle.tool_words.specs.Logs.{Parts, first_and_logs, first_logs, is_log_count, logs_of, parts_of, prefs_logs}
 use Rattle.tool_words.specs.Words.{Operand, Text, numbered, one_operand, plain_of, two_operands}
 use Rattle.tool_words.specs.declared.commands.Verb.{Verb}
 use Rattle.tool_words.specs.declared.commands.Verb.TheVariants as verb
