@@ -39,10 +39,10 @@ text_one version cs c = text_more version cs (c ∷ []) ∙ ap (λ l. open_text 
 
 covers_on : (version : Version) (cs : List Change) (w x y : SinkContents) (more : List ℕ) → x.written ≡ w.written ++ open_text version cs →
     y.written ≡ x.written ++ more → (y.flushed ≡ x.flushed) ⊎ (y.flushed ≡ length y.written) → Covers version cs w x → Covers version cs w y
-covers_on version cs w x y more is wrote f (inl none) = inl none
-covers_on version cs w x y more is wrote (inl same) (inr h) = inr (subst (λ k. length (w.written ++ open_text version cs) ≤ k) (sym same) h)
-covers_on version cs w x y more is wrote (inr all) (inr h) = inr (longer (length (w.written ++ open_text version cs)) (length more) y.flushed
-    (all ∙ ap length (wrote ∙ ap (λ t. t ++ more) is) ∙ length-append (w.written ++ open_text version cs) more))
+covers_on version cs w x y more is gained f (inl none) = inl none
+covers_on version cs w x y more is gained (inl same) (inr h) = inr (subst (λ k. length (w.written ++ open_text version cs) ≤ k) (sym same) h)
+covers_on version cs w x y more is gained (inr all) (inr h) = inr (longer (length (w.written ++ open_text version cs)) (length more) y.flushed
+    (all ∙ ap length (gained ∙ ap (λ t. t ++ more) is) ∙ length-append (w.written ++ open_text version cs) more))
   where
     longer : (a b k : ℕ) → k ≡ a + b → a ≤ k
     longer a b k e = omega arith
@@ -50,7 +50,7 @@ covers_on version cs w x y more is wrote (inr all) (inr h) = inr (longer (length
 step_done : (c : Change) (x y : SinkContents) (n : Store) → IsWritten (line_of c) x y →
     (version : Version) (done : List Change) (w : SinkContents) (m : Store) → IsRecorded version done w x m n → IsRecorded version (done ++ c ∷ []) w y m (store n c.node c.new)
 step_done c x y n is version done w m r = record {
-  wrote = whole;
+  gained = whole;
   flushed = inr (subst (λ k. length (w.written ++ open_text version (done ++ c ∷ [])) ≤ k) (sym (is.flushed ∙ ap length whole)) (same_size _));
   tree = ap (λ o. store o c.node c.new) r.tree ∙ sym (stored_more m done (c ∷ []));
 }
@@ -59,17 +59,17 @@ step_done c x y n is version done w m r = record {
     same_size k = omega arith
 
     whole : y.written ≡ w.written ++ open_text version (done ++ c ∷ [])
-    whole = is.wrote ∙ ap (λ t. t ++ line_of c) r.wrote ∙ append_assoc w.written (open_text version done) (line_of c) ∙ ap (λ t. w.written ++ t) (sym (text_one version done c))
+    whole = is.gained ∙ ap (λ t. t ++ line_of c) r.gained ∙ append_assoc w.written (open_text version done) (line_of c) ∙ ap (λ t. w.written ++ t) (sym (text_one version done c))
 
 step_cut : (c : Change) (x y : SinkContents) (n : Store) → IsCut (line_of c) x y →
     (version : Version) (done : List Change) (w : SinkContents) (m : Store) → IsRecorded version done w x m n → (rest : List Change) → LeavesOpen version (done ++ (c ∷ [] ++ rest)) w y m n
 step_cut c x y n is version done w m r rest =
-    AfterLines done (c ∷ rest) is.size refl (is.wrote ∙ ap (λ t. t ++ take is.size (line_of c)) r.wrote ∙ append_assoc w.written (open_text version done) (take is.size (line_of c)))
-    (covers_on version done w x y (take is.size (line_of c)) r.wrote is.wrote is.flushed r.flushed) r.tree
+    AfterLines done (c ∷ rest) is.size refl (is.gained ∙ ap (λ t. t ++ take is.size (line_of c)) r.gained ∙ append_assoc w.written (open_text version done) (take is.size (line_of c)))
+    (covers_on version done w x y (take is.size (line_of c)) r.gained is.gained is.flushed r.flushed) r.tree
 
 -- recorded as a whole, with more to come
 pub stays_open : (version : Version) (cs rest : List Change) (w x : SinkContents) (m n : Store) → IsRecorded version cs w x m n → LeavesOpen version (cs ++ rest) w x m n
-stays_open version cs rest w x m n r = AfterLines cs rest 0 refl (r.wrote ∙ ap (λ t. w.written ++ t) (sym (append-nil (open_text version cs)))) r.flushed r.tree
+stays_open version cs rest w x m n r = AfterLines cs rest 0 refl (r.gained ∙ ap (λ t. w.written ++ t) (sym (append-nil (open_text version cs)))) r.flushed r.tree
 
 -- ---- the exits of one command
 
@@ -84,8 +84,8 @@ at_start c a t fault = both_alone (λ x y. IfBoth t t (Refused c fault x y)) a
 -- the line was refused
 pub at_line : (c : Change) (line : List ℕ) (a b : Option SinkContents) (t : Option Store) (failed : SinkFailed) (fault : RecordFault) →
     line ≡ line_of c → IfBoth a b (WritesLine {T = Unit {0}} line (Err failed)) → BothHeld a b t t (Refused c fault)
-at_line c line a b t failed fault is wrote =
-    both_more a b wrote (λ x y h. both_alone (Refused c fault x y) t (λ n. step_cut c x y n (subst (λ l. IsCut l x y) is h)))
+at_line c line a b t failed fault is gained =
+    both_more a b gained (λ x y h. both_alone (Refused c fault x y) t (λ n. step_cut c x y n (subst (λ l. IsCut l x y) is h)))
 
 -- the tree's call was done
 pub changed : (c : Change) (line : List ℕ) (a d : Option SinkContents) (t u : Option Store) (s s' : Unit {0}) → line ≡ line_of c →
@@ -95,7 +95,7 @@ changed c line a d t u s s' same_line is puts =
     subst (IsRecorded version (done ++ c ∷ []) w y m) (sym p.1) (step_done c x y n (subst (λ l. IsWritten l x y) same_line h) version done w m k)))
 
 whole_cut : (c : Change) (x y : SinkContents) → IsWritten (line_of c) x y → IsCut (line_of c) x y
-whole_cut c x y h = record { size = length (line_of c); wrote = h.wrote ∙ ap (λ l. x.written ++ l) (sym (take-length (line_of c))); flushed = inr h.flushed }
+whole_cut c x y h = record { size = length (line_of c); gained = h.gained ∙ ap (λ l. x.written ++ l) (sym (take-length (line_of c))); flushed = inr h.flushed }
 
 -- the tree's call was refused
 pub refused : (c : Change) (line : List ℕ) (a d : Option SinkContents) (t u : Option Store) (s : Unit {0}) (e : TreeFault) (fault : RecordFault) → line ≡ line_of c →
@@ -123,37 +123,37 @@ pub cut_at_flush : (line : List ℕ) (a b d : Option SinkContents) (s : Unit {0}
     IfBoth a b (Sends {T = Unit {0}} line (Ok s)) → IfBoth b d (Flushes {T = Unit {0}} (Err failed)) → IfBoth a d (WritesLine {T = Unit {0}} line (Err failed))
 cut_at_flush line a b d s failed p q = both_then a b d p q (λ x z y h k. record {
   size = length line;
-  wrote = ap (λ o. o.written) k ∙ h.0 ∙ ap (λ l. x.written ++ l) (sym (take-length line));
+  gained = ap (λ o. o.written) k ∙ h.0 ∙ ap (λ l. x.written ++ l) (sym (take-length line));
   flushed = inl (ap (λ o. o.flushed) k ∙ h.1);
 })
 
 -- ---- the first line and the end line
 
 pub begins : (version : Version) (line : List ℕ) (a b : Option SinkContents) (s : Unit {0}) → line ≡ first_line version → IfBoth a b (WritesLine {T = Unit {0}} line (Ok s)) → IfBoth a b (Begins {T = Unit {0}} version (Ok s))
-begins version line a b s is wrote = both_more a b wrote (λ w x h m. record {
-  wrote = h.wrote ∙ ap (λ l. w.written ++ l) (is ∙ sym (append-nil (first_line version)));
+begins version line a b s is gained = both_more a b gained (λ w x h m. record {
+  gained = h.gained ∙ ap (λ l. w.written ++ l) (is ∙ sym (append-nil (first_line version)));
   flushed = inl refl;
   tree = refl;
 })
 
 pub begins_refused : (version : Version) (line : List ℕ) (a b : Option SinkContents) (failed : SinkFailed) (fault : RecordFault) → line ≡ first_line version →
     IfBoth a b (WritesLine {T = Unit {0}} line (Err failed)) → IfBoth a b (Begins {T = Unit {0}} version (Err fault))
-begins_refused version line a b failed fault is wrote = both_more a b wrote (λ w x h cs m. InFirst h.size (h.wrote ∙ ap (λ l. w.written ++ take h.size l) is) refl)
+begins_refused version line a b failed fault is gained = both_more a b gained (λ w x h cs m. InFirst h.size (h.gained ∙ ap (λ l. w.written ++ take h.size l) is) refl)
 
 pub closes : (count : ℕ) (line : List ℕ) (a b : Option SinkContents) (s : Unit {0}) → ((cs : List Change) → length cs ≡ count → line ≡ end_line_of cs) →
     IfBoth a b (WritesLine {T = Unit {0}} line (Ok s)) → IfBoth a b (Closes {T = Unit {0}} count (Ok s))
-closes count line a b s is wrote = both_more a b wrote (λ x y h version cs w m n few r. record {
-  wrote = h.wrote ∙ ap (λ t. t ++ line) r.wrote ∙ append_assoc w.written (open_text version cs) line ∙ ap (λ l. w.written ++ (open_text version cs ++ l)) (is cs few);
+closes count line a b s is gained = both_more a b gained (λ x y h version cs w m n few r. record {
+  gained = h.gained ∙ ap (λ t. t ++ line) r.gained ∙ append_assoc w.written (open_text version cs) line ∙ ap (λ l. w.written ++ (open_text version cs ++ l)) (is cs few);
   flushed = h.flushed;
   tree = r.tree;
 })
 
 pub closing_refused : (count : ℕ) (line : List ℕ) (a b : Option SinkContents) (failed : SinkFailed) (fault : RecordFault) → ((cs : List Change) → length cs ≡ count → line ≡ end_line_of cs) →
     IfBoth a b (WritesLine {T = Unit {0}} line (Err failed)) → IfBoth a b (Closes {T = Unit {0}} count (Err fault))
-closing_refused count line a b failed fault is wrote = both_more a b wrote (λ x y h version cs w m n few r.
+closing_refused count line a b failed fault is gained = both_more a b gained (λ x y h version cs w m n few r.
     AfterLines cs [] h.size (sym (append-nil cs))
-    (h.wrote ∙ ap (λ t. t ++ take h.size line) r.wrote ∙ append_assoc w.written (open_text version cs) (take h.size line) ∙ ap (λ l. w.written ++ (open_text version cs ++ take h.size l)) (is cs few))
-    (covers_on version cs w x y (take h.size line) r.wrote h.wrote h.flushed r.flushed) r.tree)
+    (h.gained ∙ ap (λ t. t ++ take h.size line) r.gained ∙ append_assoc w.written (open_text version cs) (take h.size line) ∙ ap (λ l. w.written ++ (open_text version cs ++ take h.size l)) (is cs few))
+    (covers_on version cs w x y (take h.size line) r.gained h.gained h.flushed r.flushed) r.tree)
 
 pub closing_unwritten : (count : ℕ) (a : Option SinkContents) (fault : RecordFault) → IfBoth a a (Closes {T = Unit {0}} count (Err fault))
 closing_unwritten count a fault = both_alone (Closes {T = Unit {0}} count (Err fault)) a (λ x version cs w m n few r. subst (λ l. LeavesOpen version l w x m n) (append-nil cs) (stays_open version cs [] w x m n r))

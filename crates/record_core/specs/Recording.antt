@@ -41,13 +41,13 @@ IfBothKnown x y t u P = IfKnown x y (λ v w. IfTreeKnown t u (λ m n. P v w m n)
 
 -- the line was written and flushed
 pub record IsWritten (line : List ℕ) (x y : SinkContents) : Type 0 where
-  pub wrote : y.written ≡ x.written ++ line
+  pub gained : y.written ≡ x.written ++ line
   pub flushed : y.flushed ≡ length y.written
 
 -- the first bytes of the line were written, or all of it
 pub record IsCut (line : List ℕ) (x y : SinkContents) : Type 0 where
   pub size : ℕ
-  pub wrote : y.written ≡ x.written ++ take size line
+  pub gained : y.written ≡ x.written ++ take size line
   pub flushed : (y.flushed ≡ x.flushed) ⊎ (y.flushed ≡ length y.written)
 
 abbrev pub WritesLine : {T : Type 0} → List ℕ → Result T SinkFailed → SinkContents → SinkContents → Type 0
@@ -62,7 +62,7 @@ Covers version cs w x = (cs ≡ []) ⊎ (length (w.written ++ open_text version 
 
 -- between two commands: the lines of cs are written and flushed, and the tree is their result
 pub record IsRecorded (version : Version) (cs : List Change) (w x : SinkContents) (m n : Store) : Type 0 where
-  pub wrote : x.written ≡ w.written ++ open_text version cs
+  pub gained : x.written ≡ w.written ++ open_text version cs
   pub flushed : Covers version cs w x
   pub tree : n ≡ stored m cs
 
@@ -81,7 +81,7 @@ pub data LeavesOpen (version : Version) (cs : List Change) (w x : SinkContents) 
 
 -- a recording of cs that was closed by its end line
 pub record IsClosed (version : Version) (cs : List Change) (w x : SinkContents) (m n : Store) : Type 0 where
-  pub wrote : x.written ≡ w.written ++ closed_text version cs
+  pub gained : x.written ≡ w.written ++ closed_text version cs
   pub flushed : x.flushed ≡ length x.written
   pub tree : n ≡ stored m cs
 
