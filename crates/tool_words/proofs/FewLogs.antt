@@ -1,16 +1,18 @@
--- A job of words has at most 64 logs.
-use Rattle.std.proofs.Common.{◌≡◌, ◌&&◌, ◌≤◌, Bool, true, false, nat_le, ℕ, List, [], ◌∷◌, length, Option, None, Some, refl, sym, subst, arith, if◌then◌else◌}
-use Rattle.std.specs.Prelude.{option_and_then}
+-- A job of words has at most 64 logs, and a number that it gives is that of one of them.
+use Rattle.std.proofs.Common.{◌≡◌, ◌&&◌, ◌<◌, ◌≤◌, Bool, true, false, nat_le, ℕ, List, [], ◌∷◌, length, Option, None, Some, refl, sym, subst, arith, if◌then◌else◌}
+use Rattle.std.specs.Prelude.{decimal, option_and_then}
 use Rattle.std.specs.Option.{option_map}
+use Rattle.std.specs.Str.{bytes_eq}
+use Rattle.std.specs.Str.Parse.{digits_value}
 use Rattle.std.proofs.lemmas.Bool.Decides.{nat_tests}
 use Rattle.tool_words.specs.Commands.{commands, verb_in}
-use Rattle.tool_words.specs.Jobs.{command_job, is_help, job_of, operands_job}
+use Rattle.tool_words.specs.Jobs.{command_job, is_help, job_of, operands_job, transition_of}
 use Rattle.tool_words.specs.Logs.{Parts, first_and_logs, first_logs, is_log_count, logs_of, parts_of, prefs_logs}
 use Rattle.tool_words.specs.Words.{Operand, Text, numbered, one_operand, plain_of, two_operands}
 use Rattle.tool_words.specs.declared.commands.Verb.{Verb}
 use Rattle.tool_words.specs.declared.commands.Verb.TheVariants as verb
 use Rattle.tool_words.specs.declared.job.Job.{Job}
-use Rattle.tool_words.specs.declared.job.Job.TheVariants.{Help, Replay, Canon, Merge, Steer}
+use Rattle.tool_words.specs.declared.job.Job.TheVariants.{Help, Replay, Canon, Merge, Transition, Steer}
 use Rattle.tool_words.specs.LogCounts.{HasFewLogs}
 
 -- each job that there is has few logs
@@ -38,6 +40,25 @@ few_first (Some (first ∷ rest)) = here (is_log_count (length rest)) (few_count
     here true h = h refl
     here false h = tt
 
+-- a transition's number is that of one of its logs
+few_number : (parts : Option Parts) → AllFew (option_and_then transition_of (option_and_then (λ (p : Parts). option_map (λ (pair : Operand × List Operand). (p.0, pair.0, pair.1)) (first_and_logs p.1)) parts))
+few_number None = tt
+few_number (Some (prefs, [])) = tt
+few_number (Some (prefs, first ∷ rest)) = here (is_log_count (length rest)) (few_count (length rest))
+  where
+    between : (n : ℕ) (a : Bool) → (a && (nat_le 1 n && nat_le n (length rest))) ≡ true → (0 < n) × (n ≤ length rest)
+    between n a e = (grind (arith, nat_tests), grind (arith, nat_tests))
+
+    one_of : length rest ≤ 64 → (n : ℕ) (b : Bool) → (b ≡ true → (0 < n) × (n ≤ length rest)) → AllFew (option_map (λ k. Transition k prefs rest) (if b then Some n else None))
+    one_of few n true h = (h refl, few)
+    one_of few n false h = tt
+
+    here : (b : Bool) → (b ≡ true → length rest ≤ 64) → AllFew (option_and_then transition_of (option_map (λ (pair : Operand × List Operand). (prefs, pair.0, pair.1)) (option_map (λ logs. (first, logs)) (if b then Some rest else None))))
+    here true h =
+        let n = digits_value 10 first.text in
+        one_of (h refl) n (bytes_eq first.text (decimal n) && (nat_le 1 n && nat_le n (length rest))) (between n (bytes_eq first.text (decimal n)))
+    here false h = tt
+
 few_pair : (o : Option (Operand × Operand)) → AllFew (option_map (λ (pair : Operand × Operand). Replay pair.0 pair.1) o)
 few_pair None = tt
 few_pair (Some pair) = tt
@@ -50,6 +71,7 @@ few_verb : (v : Verb) (operands : List Operand) → AllFew (operands_job v opera
 few_verb verb.Replay operands = few_pair (two_operands operands)
 few_verb verb.Canon operands = few_one (one_operand operands)
 few_verb verb.Merge operands = few_parts (parts_of operands)
+few_verb verb.Transition operands = few_number (parts_of operands)
 few_verb verb.Steer operands = few_first (plain_of operands)
 
 few_found : (v : Option Verb) (operands : List Operand) → AllFew (option_and_then (λ w. operands_job w operands) v)

@@ -6,11 +6,12 @@ use Rattle.clap.proofs.WalkLemmas.{both}
 use Rattle.tool_words.specs.Words.{Text, Operand, operand_at, numbered, is_plain, plain_of, only_of, pair_of}
 use Rattle.tool_words.specs.Logs.{Parts, is_log_count, logs_of, first_and_logs, parts_of}
 use Rattle.tool_words.specs.Commands.{commands, verb_in}
-use Rattle.tool_words.specs.Jobs.{is_help, job_of, command_job, operands_job}
+use Rattle.tool_words.specs.Jobs.{is_help, job_of, command_job, operands_job, transition_of}
+use Rattle.tool_words.specs.Numbers.{number_between}
 use Rattle.tool_words.specs.Operands.{AreInPlace, operands_in, operand_text, text_at, word_at}
 use Rattle.tool_words.specs.declared.commands.Verb.{Verb}
 use Rattle.tool_words.specs.declared.commands.Verb.TheVariants as verb
-use Rattle.tool_words.specs.declared.job.Job.TheVariants.{Help, Replay, Canon, Merge, Steer}
+use Rattle.tool_words.specs.declared.job.Job.TheVariants.{Help, Replay, Canon, Merge, Transition, Steer}
 use Rattle.tool_words.proofs.Places.{numbered_plain}
 use Rattle.tool_words.proofs.Walks.{is_not}
 use Rattle.tool_words.proofs.PrefsOption.{IsPlainFile, Opening, Parted, equals, parted, placed, plain, skipped, spelled, word}
@@ -112,6 +113,28 @@ merge_in_place name words =
     (λ logs. AreInPlace (name ∷ words) (operands_in (option_map (λ (p : Parts). Merge p.0 p.1) (option_map (λ logs. (placed p.opening, logs)) logs))))
     (file_in_place name p.opening p.rest words _ p.spelt p.file (rest_in_place name p.opening p.rest words p.spelt p.all)) tt) tt
 
+transition_in_place : (name : Text) (words : List Text) → AreInPlace (name ∷ words) (operands_in (operands_job verb.Transition (numbered 1 words)))
+transition_in_place name words =
+    of_parts words
+    (λ parts. AreInPlace (name ∷ words)
+    (operands_in (option_and_then transition_of (option_and_then (λ (p : Parts). option_map (λ pair. (p.0, pair.0, pair.1)) (first_and_logs p.1)) parts))))
+    (λ p. by p.opening p.rest (rest_in_place name p.opening p.rest words p.spelt p.all) p.spelt p.file) tt
+  where
+    by : (o : Opening) (rest : List Text) → AreInPlace (name ∷ words) (numbered (suc (skipped o)) rest) → spelled o rest ≡ words → IsPlainFile o
+        → AreInPlace (name ∷ words)
+        (operands_in (option_and_then transition_of (option_map (λ pair. (placed o, pair.0, pair.1)) (first_and_logs (numbered (suc (skipped o)) rest)))))
+    by o [] all is h = tt
+    by o (a ∷ rest) all is h =
+        of_logs (numbered (suc (suc (skipped o))) rest)
+        (λ logs. AreInPlace (name ∷ words) (operands_in (option_and_then transition_of
+        (option_map (λ (pair : Operand × List Operand). (placed o, pair.0, pair.1)) (option_map (λ logs. (operand_at (suc (skipped o)) a, logs)) logs)))))
+        (of_number (number_between 1 (length (numbered (suc (suc (skipped o))) rest)) a)) tt
+      where
+        of_number : (n : Option ℕ)
+            → AreInPlace (name ∷ words) (operands_in (option_map (λ n. Transition n (placed o) (numbered (suc (suc (skipped o))) rest)) n))
+        of_number None = tt
+        of_number (Some n) = file_in_place name o (a ∷ rest) words _ is h all.1
+
 steer_in_place : (name : Text) (words : List Text) → AreInPlace (name ∷ words) (operands_in (operands_job verb.Steer (numbered 1 words)))
 steer_in_place name words =
     of_plain words (λ them. AreInPlace (name ∷ words) (operands_in (option_map (λ pair. Steer pair.0 pair.1) (option_and_then first_and_logs them)))) (first words) tt
@@ -129,6 +152,7 @@ in_place None name words = tt
 in_place (Some verb.Replay) name words = replay_in_place name words
 in_place (Some verb.Canon) name words = canon_in_place name words
 in_place (Some verb.Merge) name words = merge_in_place name words
+in_place (Some verb.Transition) name words = transition_in_place name words
 in_place (Some verb.Steer) name words = steer_in_place name words
 
 command_in_place : (words : List Text) → AreInPlace words (operands_in (command_job (numbered 0 words)))

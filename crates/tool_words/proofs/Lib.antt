@@ -6,6 +6,7 @@ pub mod LogOperands
 pub mod FirstAndLogs
 pub mod OneOperand
 pub mod TwoOperands
+pub mod NumberTexts
 pub mod Places
 pub mod InPlace
 pub mod Table

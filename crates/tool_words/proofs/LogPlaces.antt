@@ -1,12 +1,13 @@
 -- The logs are the last words, which gives the places of the operands before them.
-use Rattle.std.proofs.Common.{◌≡◌, ◌∙◌, ◌<◌, ◌≤◌, ◌+◌, ◌-◌, refl, sym, ap, ap₂, subst, ℕ, zero, suc, true, false, List, [], ◌∷◌, Option, Some, None, true≢false, is_some, option_map, length, drop, map, length-drop, arith}
+use Rattle.std.proofs.Common.{◌≡◌, ◌∙◌, ◌<◌, ◌≤◌, ◌+◌, ◌-◌, refl, sym, ap, ap₂, subst, ℕ, zero, suc, true, false, List, [], ◌∷◌, Option, Some, None, true≢false, is_some, Bool, cond, option_map, option_and_then, length, drop, map, length-drop, arith}
 use Rattle.std.proofs.lemmas.Option.{some_pair_parts}
 use Rattle.std.specs.List.{list_all}
 use Rattle.std.specs.Prelude.{codes}
 use Rattle.std.specs.Str.{bytes_eq}
+use Rattle.std.proofs.lemmas.Bool.{leb-true}
 use Rattle.clap.proofs.WalkLemmas.{both}
 use Rattle.tool_words.specs.Words.{Text, Operand, is_plain, numbered, operand_at, plain_of}
-use Rattle.tool_words.specs.Logs.{Parts, is_log_count, parts_of, part_texts, prefs_logs, prefs_first_logs, only_logs, first_logs, has_prefs_prefix}
+use Rattle.tool_words.specs.Logs.{Parts, is_log_count, parts_of, part_texts, prefs_logs, prefs_first_logs, only_logs, first_logs, first_and_logs, has_prefs_prefix}
 use Rattle.tool_words.proofs.Places.{numbered_plain}
 use Rattle.tool_words.proofs.Walks.{is_not}
 use Rattle.tool_words.proofs.Numbered.{numbered_from, numbered_length}
@@ -169,3 +170,27 @@ plain_logs words e = rw (plain_parts words e, all_plain words e) refl
 pub plain_first_logs : (words : List Text) → list_all is_plain words ≡ true
     → prefs_first_logs (numbered 1 words) ≡ option_map (λ pair. (None, pair.0, pair.1)) (first_logs (numbered 1 words))
 plain_first_logs words e = rw (plain_parts words e, all_plain words e) refl
+
+-- ---- there are not many logs
+
+abbrev logs_in : Option (Option Operand × Operand × List Operand) → ℕ
+logs_in None = 0
+logs_in (Some found) = length found.2
+
+pub few_logs : (operands : List Operand) (file : Option Operand) (first : Operand) (logs : List Operand)
+    → prefs_first_logs operands ≡ Some (file, first, logs) → length logs ≤ 64
+few_logs operands file first logs e = by (parts_of operands) e
+  where
+    by : (parts : Option Parts) → option_and_then {U = Option Operand × Operand × List Operand} (λ (p : Parts). option_map (λ pair. (p.0, pair.0, pair.1)) (first_and_logs p.1)) parts ≡ Some (file, first, logs)
+        → length logs ≤ 64
+    by None e = absurd (cc)
+    by (Some (f, [])) e = absurd (cc)
+    by (Some (f, a ∷ rest)) e = go (is_log_count (length rest)) refl e
+      where
+        go : (b : Bool) → is_log_count (length rest) ≡ b
+            → option_map {U = Option Operand × Operand × List Operand} (λ (pair : Operand × List Operand). (f, pair.0, pair.1)) (option_map (λ logs. (a, logs)) (cond b (Some rest) None)) ≡ Some (file, first, logs)
+            → length logs ≤ 64
+        go false is e = absurd (cc)
+        go true is e =
+            let same : length rest ≡ length logs = ap logs_in e in
+            omega (arith, same, leb-true (length rest) 64 (both _ _ is).1)

@@ -4,7 +4,7 @@ use Rattle.std.specs.Str.{bytes_eq}
 use Rattle.tool_words.specs.Words.{Text}
 use Rattle.tool_words.specs.declared.commands.CommandShape.{CommandShape}
 use Rattle.tool_words.specs.declared.commands.Verb.{Verb}
-use Rattle.tool_words.specs.declared.commands.Verb.TheVariants.{Replay, Canon, Merge, Steer}
+use Rattle.tool_words.specs.declared.commands.Verb.TheVariants.{Replay, Canon, Merge, Transition, Steer}
 
 -- what a command does, its name, and its operands as the help shows them
 pub record Shape : Type 0 where
@@ -22,6 +22,7 @@ commands =
     record { verb = Replay; name = codes "replay"; operands = codes "SNAP LOG" }
     ∷ record { verb = Canon; name = codes "canon"; operands = codes "LOG" }
     ∷ record { verb = Merge; name = codes "merge"; operands = codes "[--prefs FILE] LOG..." }
+    ∷ record { verb = Transition; name = codes "transition"; operands = codes "[--prefs FILE] N LOG..." }
     ∷ record { verb = Steer; name = codes "steer"; operands = codes "SET LOG..." }
     ∷ []
 

@@ -1,5 +1,6 @@
 pub mod Words
 pub mod Logs
+pub mod Numbers
 pub mod Apps
 pub mod Commands
 pub mod Jobs

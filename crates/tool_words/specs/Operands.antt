@@ -4,7 +4,7 @@ use Rattle.std.specs.List.{AllByRecursion}
 use Rattle.tool_words.specs.Words.{Text, Operand}
 use Rattle.tool_words.specs.Logs.{has_prefs_prefix}
 use Rattle.tool_words.specs.declared.job.Job.{Job}
-use Rattle.tool_words.specs.declared.job.Job.TheVariants.{Help, Replay, Canon, Merge, Steer}
+use Rattle.tool_words.specs.declared.job.Job.TheVariants.{Help, Replay, Canon, Merge, Transition, Steer}
 
 -- the word at a place, and the empty word where there is none
 abbrev pub word_at : List Text → ℕ → Text
@@ -20,12 +20,13 @@ operand_text word = if has_prefs_prefix word then drop 8 word else word
 abbrev pub text_at : List Text → ℕ → Text
 text_at words place = operand_text (word_at words place)
 
--- the operands of a job, in the order of the words
+-- the operands of a job that name files and folders, in the order of the words
 abbrev pub job_operands : Job → List Operand
 job_operands Help = []
 job_operands (Replay snap log) = snap ∷ log ∷ []
 job_operands (Canon log) = log ∷ []
 job_operands (Merge prefs logs) = option_to_list prefs ++ logs
+job_operands (Transition number prefs logs) = option_to_list prefs ++ logs
 job_operands (Steer set logs) = set ∷ logs
 
 -- the same, and none where there is no job

@@ -15,6 +15,7 @@ pub(crate) enum Verb {
     Replay,
     Canon,
     Merge,
+    Transition,
     Steer,
 }
 
@@ -27,7 +28,7 @@ pub(crate) struct CommandShape {
 }
 
 /// The commands that are built, in the order of the help.
-pub(crate) const COMMANDS: [CommandShape; 4] = [
+pub(crate) const COMMANDS: [CommandShape; 5] = [
     CommandShape {
         verb: Verb::Replay,
         name: "replay",
@@ -42,6 +43,11 @@ pub(crate) const COMMANDS: [CommandShape; 4] = [
         verb: Verb::Merge,
         name: "merge",
         operands: "[--prefs FILE] LOG...",
+    },
+    CommandShape {
+        verb: Verb::Transition,
+        name: "transition",
+        operands: "[--prefs FILE] N LOG...",
     },
     CommandShape {
         verb: Verb::Steer,

@@ -67,6 +67,13 @@ pub enum Job<'a> {
         prefs: Option<Word<'a>>,
         logs: FileList<'a>,
     },
+    /// Print the commands that lead from the result of log `number`, from 1, to that of the first
+    /// merger of the logs, under the rules of the file `prefs` or under none.
+    Transition {
+        number: u32,
+        prefs: Option<Word<'a>>,
+        logs: FileList<'a>,
+    },
     /// Print the rules under which the net set of the log in the file `set` is the first merger of
     /// the logs.
     Steer {

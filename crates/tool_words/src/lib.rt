@@ -10,6 +10,7 @@ mod file_list;
 mod job;
 pub mod laws;
 mod logs;
+mod numbers;
 mod operand_words;
 mod operands;
 mod read;

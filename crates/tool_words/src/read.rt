@@ -1,13 +1,15 @@
 //! Reads the words into a job.
 
-ghost use Rattle.std.specs.Prelude.{◌≡◌, IfOk, IsErrOf, Some, None};
+ghost use Rattle.std.specs.Prelude.{◌≡◌, IfOk, IsErrOf, Some, None, option_and_then};
 ghost use Rattle.tool_words.specs.declared.job.WordFault.TheVariants.{Refused};
 ghost use Rattle.tool_words.specs.Words.{texts_of, operands_of};
-ghost use Rattle.tool_words.specs.Jobs.{job_of, operands_job, is_help};
+ghost use Rattle.tool_words.specs.Jobs.{job_of, operands_job, is_help, transition_of};
+ghost use Rattle.tool_words.specs.Logs.{prefs_first_logs};
 
 use crate::commands::{Verb, verb_of};
 use crate::job::{Job, WordFault};
-use crate::logs::{first_and_logs, prefs_and_logs};
+use crate::logs::{first_and_logs, prefs_and_logs, prefs_first_and_logs};
+use crate::numbers::read_number;
 use crate::operands::{one_operand, two_operands};
 use std::alloc::Global;
 
@@ -18,6 +20,29 @@ fn ask_help(words: &[String]) -> bool
     match words {
         [only] => only.as_str() == "help" || only.as_str() == "--help",
         _ => false,
+    }
+}
+
+/// The job of the operands of `transition`, whose number is that of one of the logs.
+fn read_transition<'a>(
+    alloc: Global,
+    name: &'a str,
+    words: &'a [String],
+) -> Result<Job<'a>, WordFault>
+    ensures ok { IfOk result (λ job. option_and_then transition_of
+        (prefs_first_logs (operands_of words.entry.now)) ≡ Some job) }
+    ensures refused { IsErrOf result Refused → option_and_then transition_of
+        (prefs_first_logs (operands_of words.entry.now)) ≡ None }
+{
+    let (prefs, first, logs) = prefs_first_and_logs(alloc, name, words)?;
+    let count = logs.len() as u32;
+    match read_number(first.as_str(), 1, count) {
+        Some(number) => Ok(Job::Transition {
+            number,
+            prefs,
+            logs,
+        }),
+        None => Err(WordFault::Refused),
     }
 }
 
@@ -48,6 +73,7 @@ fn read_operands<'a>(
             let (set, logs) = first_and_logs(alloc, name, words)?;
             Ok(Job::Steer { set, logs })
         }
+        Verb::Transition => read_transition(alloc, name, words),
     }
 }
 

@@ -60,6 +60,16 @@ fn job_text(alloc: Global, line: &str) -> Result<String, AllocError> {
             let (prefs, logs) = (prefs_text(alloc, prefs)?, logs_text(alloc, logs)?);
             format!(in alloc; "merge {prefs}{logs}")
         }
+        Ok(
+            Job::Transition {
+                number,
+                prefs,
+                logs,
+            },
+        ) => {
+            let (prefs, logs) = (prefs_text(alloc, prefs)?, logs_text(alloc, logs)?);
+            format!(in alloc; "transition {prefs}{number} {logs}")
+        }
         Ok(Job::Steer { set, logs }) => {
             let (set, logs) = (word_text(alloc, set)?, logs_text(alloc, logs)?);
             format!(in alloc; "steer {set} {logs}")
@@ -69,7 +79,7 @@ fn job_text(alloc: Global, line: &str) -> Result<String, AllocError> {
     }
 }
 
-const CASES: [(&str, &str); 32] = [
+const CASES: [(&str, &str); 52] = [
     ("help", "help"),
     ("--help", "help"),
     ("replay s l1", "replay 1=s 2=l1"),
@@ -83,6 +93,15 @@ const CASES: [(&str, &str); 32] = [
     ("merge --prefs=p l1 l2", "merge 1=p 2: 2=l1 3=l2"),
     ("merge --prefs==p l1", "merge 1==p 1: 2=l1 2=l1"),
     ("steer m l1 l2", "steer 1=m 2: 2=l1 3=l2"),
+    ("transition 1 l1 l2", "transition 1 2: 2=l1 3=l2"),
+    (
+        "transition --prefs p 2 l1 l2",
+        "transition 2=p 2 2: 4=l1 5=l2",
+    ),
+    (
+        "transition --prefs=p 2 l1 l2",
+        "transition 1=p 2 2: 3=l1 4=l2",
+    ),
     ("", "refused"),
     ("frob", "refused"),
     ("replay s", "refused"),
@@ -100,6 +119,13 @@ const CASES: [(&str, &str); 32] = [
     ("merge --prefs=p", "refused"),
     ("merge l1 --prefs p", "refused"),
     ("merge --prefs", "refused"),
+    ("conflicts", "refused"),
+    ("transition 3 l1 l2", "refused"),
+    ("transition 0 l1 l2", "refused"),
+    ("transition 01 l1 l2", "refused"),
+    ("transition +1 l1 l2", "refused"),
+    ("transition x l1 l2", "refused"),
+    ("transition 1", "refused"),
     ("steer m", "refused"),
     ("steer --prefs=p m l1", "refused"),
 ];
@@ -133,6 +159,6 @@ fn jobs_are_read(rt: HostRuntime) -> Result<(), AllocError> {
 fn the_help_has_a_line_for_each_command(rt: HostRuntime) {
     let text = help(rt.alloc()).expect(&rt, "memory");
     let wanted =
-        "usage: treesync COMMAND WORDS\n  replay SNAP LOG\n  canon LOG\n  merge [--prefs FILE] LOG...\n  steer SET LOG...\n";
+        "usage: treesync COMMAND WORDS\n  replay SNAP LOG\n  canon LOG\n  merge [--prefs FILE] LOG...\n  transition [--prefs FILE] N LOG...\n  steer SET LOG...\n";
     assert_eq!(rt; text.as_slice(), wanted.as_bytes());
 }
