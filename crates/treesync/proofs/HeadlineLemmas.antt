@@ -188,7 +188,7 @@ gained : (status : ℕ) (text : List ℕ) (a b : SinkState) → status ≡ 0 →
 gained status text a b z p = both_more a.contents b.contents p.1 (λ m k w. w.whole z)
 
 -- a run that ended with status 0, over files that are known
-found_text : (words : List Text) (before now : Outside) (m : FileContents) (counted : Type 0) (contents : Option FileContents) (status : ℕ) (answer : Result (List ℕ) Refusal) → status ≡ 0 → contents ≡ Some m →
+pub found_text : (words : List Text) (before now : Outside) (m : FileContents) (counted : Type 0) (contents : Option FileContents) (status : ℕ) (answer : Result (List ℕ) Refusal) → status ≡ 0 → contents ≡ Some m →
     IsAllowed (IsAnswer words) contents counted answer → Prints answer status before.out now.out → (text : List ℕ) × IsAnswer words m.held false (Ok text) × Gains text before.out now.out
 found_text words before now m counted None status answer z e h p = absurd (cc)
 found_text words before now m counted (Some k) status (Ok text) z e h p =
@@ -198,7 +198,7 @@ found_text words before now m counted (Some k) status (Err OutOfMemory) z e h p 
 found_text words before now m counted (Some k) status (Err (ReadFailed word)) z e h p = absurd (omega (arith, p.0))
 found_text words before now m counted (Some k) status (Err (Found finding)) z e h p = absurd (omega (arith, p.0, finding_above finding))
 
-job_answer : (words : List Text) (job : Job) (held : Names) (answer : Result (List ℕ) Refusal) → job_of words ≡ Some job → IsAnswer words held false answer → IsAnswerOf (Some job) held false answer
+pub job_answer : (words : List Text) (job : Job) (held : Names) (answer : Result (List ℕ) Refusal) → job_of words ≡ Some job → IsAnswer words held false answer → IsAnswerOf (Some job) held false answer
 job_answer words job held answer e h = subst (λ j. IsAnswerOf j held false answer) e h
 
 module _ (words : List Text) (before now : Outside) (status : ℕ) (ran : Ran words before now status) where

@@ -7,8 +7,10 @@ pub mod Words
 pub mod JoinLemmas
 pub mod MergeLemmas
 pub mod SteerLemmas
+pub mod TransitionLemmas
 pub mod OneVerdict
 pub mod HeldLogs
 pub mod HeadlineLemmas
+pub mod TransitionHeadline
 pub mod Jobs
 pub mod Unique

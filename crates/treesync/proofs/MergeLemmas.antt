@@ -31,7 +31,7 @@ module _ (P : Change → Type 0) where
   each_append [] ds h g = g
   each_append (c ∷ cs) ds h g = (h.0, each_append cs ds h.1 g)
 
-  each_in : (cs : List Change) → AllByRecursion P cs → (c : Change) → is_in cs c ≡ true → P c
+  pub each_in : (cs : List Change) → AllByRecursion P cs → (c : Change) → is_in cs c ≡ true → P c
   each_in [] h c e = absurd (cc)
   each_in (d ∷ ds) h c e = here (same_change c d) refl (λ g. each_in ds h.1 c g) e
     where
@@ -39,7 +39,7 @@ module _ (P : Change → Type 0) where
       here true s later e = subst P (sym (same_change_is c d s)) h.0
       here false s later e = later e
 
-  from_each : (cs : List Change) → ((c : Change) → is_in cs c ≡ true → P c) → AllByRecursion P cs
+  pub from_each : (cs : List Change) → ((c : Change) → is_in cs c ≡ true → P c) → AllByRecursion P cs
   from_each [] h = tt
   from_each (d ∷ ds) h = (h d (ap (λ b. b || is_in ds d) (same_change_refl d)), from_each ds (λ c e. h c (later c e)))
     where
@@ -60,7 +60,7 @@ of_second : (v w : Version) (cs : List Change) → AllByRecursion (IsOfVersion w
 of_second v w [] h = tt
 of_second v w (c ∷ cs) h = (record { old = second_of v w c.old h.0.old; new = second_of v w c.new h.0.new }, of_second v w cs h.1)
 
-nets_printable : (reads : List ReadLog) → ArePrintable reads → AllByRecursion (IsOfVersion (joint_version reads)) (nets_in_turn (commands_of reads))
+pub nets_printable : (reads : List ReadLog) → ArePrintable reads → AllByRecursion (IsOfVersion (joint_version reads)) (nets_in_turn (commands_of reads))
 nets_printable [] h = tt
 nets_printable (r ∷ reads) h =
     each_append (IsOfVersion (later_version r.version (joint_version reads))) (canonical (net r.commands)) (nets_in_turn (commands_of reads))

@@ -15,7 +15,7 @@ use Rattle.canon_set.proofs.CallerLemmas.{command_at-canonical, is_canonical-can
 use Rattle.log_text.specs.Logs.{log_of, log_text}
 use Rattle.refluent.specs.CommonTrees.{AllChange, HasCommonTree}
 use Rattle.refluent.specs.Drawn.{drawn_commands}
-use Rattle.refluent.specs.FirstDisagreements.{IsFirstDisagreement, pair_before}
+use Rattle.refluent.specs.FirstDisagreements.{IsFirstDisagreement, log_at, pair_before}
 use Rattle.refluent.specs.Sets.{HaveSameCommands, IsSubset}
 use Rattle.refluent.proofs.CallerLemmas.{at_from_in, in_from_at}
 use Rattle.pref_list.specs.Prefs.{prefs_of}
@@ -29,9 +29,9 @@ use Rattle.merge_core.proofs.CallerLemmas.{one_first}
 use Rattle.tool_words.specs.Words.{Operand}
 use Rattle.sync_command.specs.declared.values.Version.{Version}
 use Rattle.log_text.specs.Snapshots.{snapshot_of}
-use Rattle.canon_set.specs.Logs.{IsBrokenAt, IsTaken}
+use Rattle.canon_set.specs.Logs.{IsBrokenAt, IsTaken, net}
 use Rattle.tool_words.specs.declared.job.Job.{Job}
-use Rattle.tool_words.specs.declared.job.Job.TheVariants.{Help, Replay, Canon, Merge, Steer}
+use Rattle.tool_words.specs.declared.job.Job.TheVariants.{Help, Replay, Canon, Merge, Transition, Steer}
 use Rattle.tool_words.specs.Jobs.{job_of}
 use Rattle.sync_port.specs.Ports.{Names}
 use Rattle.treesync.specs.Checks.{Check, IsOne, Judged, Next, Then}
@@ -39,6 +39,8 @@ use Rattle.treesync.specs.Canon.{IsCanon, IsNet}
 use Rattle.treesync.specs.Joining.{AllTaken, AreTaken, EachTaken, IsFirstUntaken, IsJoined, IsLogs, commands_of, joint_version, left_after}
 use Rattle.treesync.specs.Merge.{IsMerge, IsMergeOf, IsMerged, IsMergerText}
 use Rattle.treesync.specs.Preferences.{ArePreferences, RulesHold, preference_word, rule_refusal}
+use Rattle.treesync.specs.Transition.{IsTransition, IsTransitionOf, IsTransitioned, IsTransitionText}
+use Rattle.transition.proofs.CallerLemmas.{canonical_merger}
 use Rattle.treesync.specs.Steer.{IsNetSet, IsSteer, IsSteered, IsSteering, RefusesBy}
 use Rattle.treesync.proofs.HeldLogs.{all_change_held, held_logs, same_commands}
 use Rattle.treesync.proofs.OneVerdict.{one_verdict}
@@ -284,20 +286,24 @@ rules_one word rules reads (Ok one) (Err r) p q = absurd (cc (p.1, q.1))
 rules_one word rules reads (Err r) (Ok other) p q = absurd (cc (p.1, q.1))
 rules_one word rules reads (Err r) (Err s) p q = let same : p.0 ≡ q.0 = cc (p.1, q.1) in ap Err (p.2 ∙ ap (rule_refusal word) same ∙ sym q.2)
 
--- sets with the same commands, one a node, have one canonical list
-pub one_list : (cs ds : List Change) → one_each cs ≡ true → one_each ds ≡ true → HaveSameCommands cs ds → canonical cs ≡ canonical ds
-one_list cs ds one other same =
-    canonical_unique (canonical cs) (canonical ds) (is_canonical-canonical cs one) (is_canonical-canonical ds other) (one_each-canonical cs one) (one_each-canonical ds other) (λ p.
-    command_at-canonical cs one p ∙ here p (command_at cs p) refl (command_at ds p) refl ∙ sym (command_at-canonical ds other p))
+-- sets with the same commands, one a node, have the same one at each
+pub same_at : (cs ds : List Change) → one_each cs ≡ true → one_each ds ≡ true → HaveSameCommands cs ds → (p : Node) → command_at cs p ≡ command_at ds p
+same_at cs ds one other same p = here (command_at cs p) refl (command_at ds p) refl
   where
     -- a command of one set at a node is that of the other
-    there : (xs ys : List Change) → one_each ys ≡ true → IsSubset xs ys → (p : Node) (c : Change) → command_at xs p ≡ Some c → command_at ys p ≡ Some c
-    there xs ys once part p c e = ap (command_at ys) (command_at-node xs p c e) ∙ at_from_in ys once c (part c (in_from_at xs p c e))
+    there : (xs ys : List Change) → one_each ys ≡ true → IsSubset xs ys → (c : Change) → command_at xs p ≡ Some c → command_at ys p ≡ Some c
+    there xs ys once part c e = ap (command_at ys) (command_at-node xs p c e) ∙ at_from_in ys once c (part c (in_from_at xs p c e))
 
-    here : (p : Node) (o : Option Change) → command_at cs p ≡ o → (u : Option Change) → command_at ds p ≡ u → command_at cs p ≡ command_at ds p
-    here p (Some c) e u f = e ∙ sym (there cs ds other same.0 p c e)
-    here p None e (Some d) f = there ds cs one same.1 p d f ∙ sym f
-    here p None e None f = e ∙ sym f
+    here : (o : Option Change) → command_at cs p ≡ o → (u : Option Change) → command_at ds p ≡ u → command_at cs p ≡ command_at ds p
+    here (Some c) e u f = e ∙ sym (there cs ds other same.0 c e)
+    here None e (Some d) f = there ds cs one same.1 d f ∙ sym f
+    here None e None f = e ∙ sym f
+
+-- and one canonical list
+pub one_list : (cs ds : List Change) → one_each cs ≡ true → one_each ds ≡ true → HaveSameCommands cs ds → canonical cs ≡ canonical ds
+one_list cs ds one other same =
+    canonical_unique (canonical cs) (canonical ds) (is_canonical-canonical cs one) (is_canonical-canonical ds other) (one_each-canonical cs one) (one_each-canonical ds other)
+    (λ p. command_at-canonical cs one p ∙ same_at cs ds one other same p ∙ sym (command_at-canonical ds other p))
 
 merger_text_one : (rules : List Rule) (reads : List ReadLog) → HasCommonTree (commands_of reads) → OneOf (IsMergerText rules reads)
 merger_text_one rules reads common (Ok one) (Ok other) p q = ap Ok (p.2 ∙ ap (log_text (joint_version reads)) same ∙ sym q.2)
@@ -380,6 +386,41 @@ steer_one file files =
     next_one (IsJoined files reads) (IsSteered file.place set) (joined_one files reads) (λ joined j.
     steered_one file.place set joined (subst (λ rs. AllChange (commands_of rs)) (sym (was_read files reads joined j)) (all_change_read held FULL_ALLOWANCE files reads h)) (has_common files reads joined j)))))
 
+-- ---- the transition of a log
+
+transition_text_one : (number : ℕ) (rules : List Rule) (reads : List ReadLog) → HasCommonTree (commands_of reads) → OneOf (IsTransitionText number rules reads)
+transition_text_one number rules reads common (Ok one) (Ok other) p q = ap Ok (p.4 ∙ ap (log_text (joint_version reads)) same ∙ sym q.4)
+  where
+    first : IsFirstMerger (at common.map) (drawn_commands (commands_of reads)) (ranking (commands_of reads) rules) p.0
+    first = p.2 common.map common.common
+
+    second : IsFirstMerger (at common.map) (drawn_commands (commands_of reads)) (ranking (commands_of reads) rules) q.0
+    second = q.2 common.map common.common
+
+    mergers : HaveSameCommands p.0 q.0
+    mergers = one_first (at common.map) (drawn_commands (commands_of reads)) (ranking (commands_of reads) rules) p.0 q.0 (drawn_ranked (commands_of reads) rules) first second
+
+    same : p.1 ≡ q.1
+    same =
+        p.3 common.map common.common
+        ∙ canonical_merger (at common.map) (net (log_at (commands_of reads) (number - 1))) p.0 q.0 (same_at p.0 q.0 first.merger.fits.one second.merger.fits.one mergers)
+        ∙ sym (q.3 common.map common.common)
+transition_text_one number rules reads common (Ok one) (Err r) p q = absurd q
+transition_text_one number rules reads common (Err r) other p q = absurd p
+
+transitioned_one : (number word : ℕ) (rules : List Rule) (reads : List ReadLog) → HasCommonTree (commands_of reads) → OneOf (IsTransitioned number word rules reads)
+transitioned_one number word rules reads common =
+    next_one (RulesHold word rules reads) (IsTransitionText number rules) (rules_one word rules reads) (λ same h. transition_text_one number rules same (subst (λ rs. HasCommonTree (commands_of rs)) (sym h.0) common))
+
+transition_of_one : (number word : ℕ) (rules : List Rule) (files : List Operand) → IsOne (IsTransitionOf number word rules files)
+transition_of_one number word rules files =
+    then_one (IsLogs FULL_ALLOWANCE files) (λ reads. Judged (Next (IsJoined files reads) (IsTransitioned number word rules))) (logs_one FULL_ALLOWANCE files) (λ reads.
+    judged_one (Next (IsJoined files reads) (IsTransitioned number word rules)) (next_one (IsJoined files reads) (IsTransitioned number word rules) (joined_one files reads) (λ joined h. transitioned_one number word rules joined (has_common files reads joined h))))
+
+transition_one : (number : ℕ) (prefs : Option Operand) (files : List Operand) → IsOne (IsTransition number prefs files)
+transition_one number prefs files =
+    then_one (ArePreferences prefs) (λ rules. IsTransitionOf number (preference_word prefs) rules files) (preferences_one prefs) (λ rules. transition_of_one number (preference_word prefs) rules files)
+
 -- ---- the answer of words
 
 job_one : (job : Job) → IsOne (IsJobAnswer job)
@@ -387,6 +428,7 @@ job_one Help = named_one _
 job_one (Replay snap log) = replay_one snap.place snap.text log.place log.text
 job_one (Canon log) = canon_one log.place log.text
 job_one (Merge prefs logs) = merge_one prefs logs
+job_one (Transition number prefs logs) = transition_one number prefs logs
 job_one (Steer set logs) = steer_one set logs
 
 answer_of_one : (job : Option Job) → IsOne (IsAnswerOf job)

@@ -1,8 +1,10 @@
--- The headline of merging, in the words of the model: what `merge` prints, and when it prints.
-use Rattle.std.specs.Prelude.{◌≡◌, ◌⊎◌, ◌≤◌, ◌++◌, ℕ, List, [], ◌∷◌, map, length, ⊤, Option, None, Some}
+-- The headline of merging, in the words of the model: what `merge` prints, and when it prints, and where each printed
+-- transition leads.
+use Rattle.std.specs.Prelude.{◌≡◌, ◌⊎◌, ◌≤◌, ◌-◌, ◌++◌, ℕ, List, [], ◌∷◌, map, length, ⊤, Option, None, Some}
 use Rattle.std.specs.List.{sum_by}
 use Rattle.sync_command.specs.Changes.{Change}
-use Rattle.sync_command.specs.Maps.{Store, at}
+use Rattle.sync_command.specs.Maps.{Store, at, stored}
+use Rattle.sync_command.specs.Trees.{Fits, after}
 use Rattle.sync_command.specs.declared.values.Version.{Version}
 use Rattle.sync_command.specs.declared.values.Version.TheVariants.{One}
 use Rattle.sync_port.specs.States.{FaultCounted, IfKnown}
@@ -11,6 +13,7 @@ use Rattle.canon_set.specs.Sets.{canonical}
 use Rattle.log_text.specs.Logs.{IsLog, log_text}
 use Rattle.refluent.specs.CommonTrees.{HasCommonTree, IsCommonTree}
 use Rattle.refluent.specs.Drawn.{drawn_commands}
+use Rattle.refluent.specs.FirstDisagreements.{log_at}
 use Rattle.refluent.specs.Joints.{net_sets}
 use Rattle.refluent.specs.Mergers.{IsMerger}
 use Rattle.pref_list.specs.Orders.{first_fault}
@@ -19,7 +22,7 @@ use Rattle.pref_list.specs.declared.rules.Rule.{Rule}
 use Rattle.merge_core.specs.Steering.{steering_rules}
 use Rattle.tool_words.specs.Jobs.{job_of}
 use Rattle.tool_words.specs.Words.{Operand, Text}
-use Rattle.tool_words.specs.declared.job.Job.TheVariants.{Merge}
+use Rattle.tool_words.specs.declared.job.Job.TheVariants.{Merge, Transition}
 use Rattle.treesync.specs.Jobs.{Outside}
 use Rattle.treesync.specs.Logs.{later_version}
 use Rattle.treesync.specs.Merge.{IsFirstMergerFor}
@@ -91,6 +94,32 @@ abbrev pub PrintsMerger : List Text → Outside → Outside → ℕ → Type 0
 PrintsMerger words before now status =
     (prefs : Option Operand) (files : List Operand) (m : FileContents) →
     job_of words ≡ Some (Merge prefs files) → before.files.contents ≡ Some m → status ≡ 0 → GainsMerger m.held prefs files before.out now.out
+
+-- a set fits the tree of the replica of this number, wherever the logs began together, and leads to the merger's tree
+abbrev pub LeadsToMerger : List (List Change) → ℕ → List Change → List Change → Type 0
+LeadsToMerger logs number set merger =
+    (m : Store) → IsCommonTree m logs →
+    let replica = at (stored m (log_at logs (number - 1))) in Fits replica set × (after set replica ≡ after merger (at m))
+
+-- the files hold logs that some tree takes together, and `out` gained a set that leads the tree of one replica to that
+-- of the first merger under the rules that are held
+pub record GainsTransition (held : Names) (number : ℕ) (prefs : Option Operand) (files : List Operand) (before now : SinkState) : Type 0 where
+  pub logs : List Recorded
+  pub rules : List Rule
+  pub hold : HoldLogs held files logs
+  pub prefer : HoldsRules held prefs rules
+  pub common : HasCommonTree (all_commands logs)
+  pub set : List Change
+  pub leads : (merger : List Change) → IsFirstMergerFor (all_commands logs) rules merger → LeadsToMerger (all_commands logs) number set merger
+  pub gains : Gains (log_text (latest_version logs) set) before now
+
+-- With status 0 a `transition` printed what leads its replica's tree to the tree of the merger that `merge` prints under
+-- the same rules: so all replicas come to one tree.
+abbrev pub PrintsTransition : List Text → Outside → Outside → ℕ → Type 0
+PrintsTransition words before now status =
+    (number : ℕ) (prefs : Option Operand) (files : List Operand) (m : FileContents) →
+    job_of words ≡ Some (Transition number prefs files) → before.files.contents ≡ Some m → status ≡ 0 →
+    GainsTransition m.held number prefs files before.out now.out
 
 -- the status is one of a text or of memory that ran out, unless a fault was counted
 abbrev pub Completes : Outside → Outside → ℕ → Type 0

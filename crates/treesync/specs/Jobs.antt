@@ -3,7 +3,7 @@ use Rattle.std.specs.Prelude.{◌≡◌, ◌⊎◌, ◌≤◌, ◌++◌, ℕ, Li
 use Rattle.sync_port.specs.States.{FaultCounted, IfKnown}
 use Rattle.sync_port.specs.Ports.{FilesState, SinkState}
 use Rattle.tool_words.specs.declared.job.Job.{Job}
-use Rattle.tool_words.specs.declared.job.Job.TheVariants.{Help, Replay, Canon, Merge, Steer}
+use Rattle.tool_words.specs.declared.job.Job.TheVariants.{Help, Replay, Canon, Merge, Transition, Steer}
 use Rattle.tool_words.specs.Jobs.{job_of}
 use Rattle.tool_words.specs.Help.{help_text}
 use Rattle.treesync.specs.Checks.{Answers, Check, IsAllowed, Judged, ReadsFiles}
@@ -12,6 +12,7 @@ use Rattle.treesync.specs.Joining.{log_limits}
 use Rattle.treesync.specs.Merge.{IsMerge}
 use Rattle.treesync.specs.Preferences.{preference_limits}
 use Rattle.treesync.specs.Steer.{IsSteer}
+use Rattle.treesync.specs.Transition.{IsTransition}
 use Rattle.treesync.specs.Ends.{Prints, Says, line_of}
 use Rattle.treesync.specs.Replay.{IsReplay}
 use Rattle.treesync.specs.declared.input.TheConstants.{FILE_LIMIT}
@@ -25,6 +26,7 @@ IsJobAnswer Help = Judged (λ answer. answer ≡ Ok help_text)
 IsJobAnswer (Replay snap log) = IsReplay snap.place snap.text log.place log.text
 IsJobAnswer (Canon log) = IsCanon log.place log.text
 IsJobAnswer (Merge prefs logs) = IsMerge prefs logs
+IsJobAnswer (Transition number prefs logs) = IsTransition number prefs logs
 IsJobAnswer (Steer set logs) = IsSteer set logs
 
 -- the limits of the files that it reads, each once
@@ -33,6 +35,7 @@ limits_of Help = []
 limits_of (Replay snap log) = FILE_LIMIT ∷ FILE_LIMIT ∷ []
 limits_of (Canon log) = FILE_LIMIT ∷ []
 limits_of (Merge prefs logs) = preference_limits prefs ++ log_limits logs
+limits_of (Transition number prefs logs) = preference_limits prefs ++ log_limits logs
 limits_of (Steer set logs) = FILE_LIMIT ∷ log_limits logs
 
 -- ---- words

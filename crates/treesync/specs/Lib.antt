@@ -7,6 +7,7 @@ pub mod Canon
 pub mod Replay
 pub mod Merge
 pub mod Steer
+pub mod Transition
 pub mod Jobs
 pub mod Headline
 pub mod Messages

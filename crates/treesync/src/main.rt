@@ -14,6 +14,7 @@ mod run;
 mod steer;
 #[cfg(test)]
 mod tests;
+mod transition;
 
 pub use self::refusal::{Finding, Refusal};
 use self::report::report;

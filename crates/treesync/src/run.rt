@@ -5,7 +5,7 @@ ghost use Rattle.tool_words.specs.Jobs.{job_of};
 ghost use Rattle.tool_words.specs.LogCounts.{HasFewLogs};
 ghost use Rattle.tool_words.specs.Help.{help_text};
 ghost use Rattle.treesync.specs.Checks.{Answers, HasItems, IsJudged, IsOne};
-ghost use Rattle.treesync.specs.Headline.{CompletesMerge, PrintsMerger, PrintsSteered};
+ghost use Rattle.treesync.specs.Headline.{CompletesMerge, PrintsMerger, PrintsSteered, PrintsTransition};
 ghost use Rattle.treesync.specs.Jobs.{Finds, IsAnswer, IsJobAnswer, limits_of, outside, Ran, Keeps, NoneFailed};
 
 use crate::Refusal;
@@ -14,6 +14,7 @@ use crate::merge::merge;
 use crate::replay::replay;
 use crate::report::report;
 use crate::steer::steer;
+use crate::transition::transition;
 use std::alloc::Global;
 use sync_port::{Files, Sink};
 use tool_words::{Job, WordFault, help, read_words};
@@ -46,6 +47,11 @@ fn job_answer<F: Files>(alloc: Global, job: &Job, files: &mut F) -> Result<Vec<u
         }
         Job::Canon { log } => canon(alloc, log.place(), log.as_str(), files),
         Job::Merge { prefs, logs } => merge(alloc, prefs, logs, files),
+        Job::Transition {
+            number,
+            prefs,
+            logs,
+        } => transition(alloc, *number, prefs, logs, files),
         Job::Steer { set, logs } => steer(alloc, set.place(), set.as_str(), logs, files),
     }
 }
@@ -101,6 +107,9 @@ pub fn run<F: Files, O: Sink, E: Sink>(
         (outside (F.files files.old) (O.sink out.old) (E.sink err.old))
         (outside (F.files files.new) (O.sink out.new) (E.sink err.new)) result }
     ensures completes { CompletesMerge (map string_bytes words.now)
+        (outside (F.files files.old) (O.sink out.old) (E.sink err.old))
+        (outside (F.files files.new) (O.sink out.new) (E.sink err.new)) result }
+    ensures leads { PrintsTransition (map string_bytes words.now)
         (outside (F.files files.old) (O.sink out.old) (E.sink err.old))
         (outside (F.files files.new) (O.sink out.new) (E.sink err.new)) result }
     ensures done { result ≡ 0 → NoneFailed

@@ -1,5 +1,10 @@
 //! Jobs over files and sinks in memory: the status, the printed text and the line on `err`.
 
+mod machines;
+
+use self::machines::{
+    DESKTOP, DESKTOP_LEFT, LAPTOP, LAPTOP_LEFT, MERGED, PREFERRED, SERVER, SERVER_LEFT, STEERED,
+};
 use crate::run;
 use std::alloc::Global;
 use std::process::Abort;
@@ -85,7 +90,7 @@ const FILE_A: &str = "treesnap 1\na f:1\nend 1\n";
 fn jobs_have_their_answers(rt: HostRuntime) -> Result<(), Fail> {
     let alloc = rt.alloc();
     let help =
-        "usage: treesync COMMAND WORDS\n  replay SNAP LOG\n  canon LOG\n  merge [--prefs FILE] LOG...\n  steer SET LOG...\n";
+        "usage: treesync COMMAND WORDS\n  replay SNAP LOG\n  canon LOG\n  merge [--prefs FILE] LOG...\n  transition [--prefs FILE] N LOG...\n  steer SET LOG...\n";
     let refused = "treesync: words refused\n";
     let ordered = "treesnap 1\na d\na/b f:\na-b f:1\nend 3\n";
     let turned = "treesnap 1\na d\na-b f:1\na/b f:\nend 3\n";
@@ -456,6 +461,54 @@ fn merges_have_their_answers(rt: HostRuntime) -> Result<(), Fail> {
             "treesync: p: line 2: number\n",
         ),
         (
+            "transition 3 l1 l2",
+            FOLDER_GONE,
+            FILE_BESIDE,
+            "",
+            2,
+            "treesync: words refused\n",
+        ),
+        (
+            "transition 1 l1 l2",
+            FOLDER_GONE,
+            FILE_BESIDE,
+            "",
+            0,
+            NO_COMMANDS,
+        ),
+        (
+            "transition 2 l1 l2",
+            FOLDER_GONE,
+            FILE_BESIDE,
+            "",
+            0,
+            "treelog 1\na/y f:2 -\na/x f:1 -\na d -\nend 3\n",
+        ),
+        (
+            "transition --prefs p 1 l1 l2",
+            FOLDER_GONE,
+            FILE_BESIDE,
+            "treeprefs 1\nat 2 a/y\nend 1\n",
+            0,
+            "treelog 1\na - d\na/y - f:2\nend 2\n",
+        ),
+        (
+            "transition --prefs=p 2 l1 l2",
+            FOLDER_GONE,
+            FILE_BESIDE,
+            "treeprefs 1\nat 2 a/y\nend 1\n",
+            0,
+            "treelog 1\na/x f:1 -\nend 1\n",
+        ),
+        (
+            "transition 1 l1 l2 m",
+            "treelog 2\na d d:x\nend 1\n",
+            FOLDER_GONE,
+            FILE_BESIDE,
+            0,
+            "treelog 2\na/x f:1 -\na/y - f:2\nend 2\n",
+        ),
+        (
             "steer m l1 l2",
             FOLDER_GONE,
             FILE_BESIDE,
@@ -508,97 +561,6 @@ fn merges_have_their_answers(rt: HostRuntime) -> Result<(), Fail> {
     Ok(())
 }
 
-/// A project folder on three machines: the log of the first.
-const LAPTOP: &str = "treelog 1
-proj/README.md f:Hello%0A f:Hello%20all%0A
-proj/src/main.c f:int%20main; f:int%20main(void);
-proj/src/util.c - f:u1
-proj/src/util.c f:u1 f:u2
-proj/src/a/b f:slash -
-proj/src/a d -
-proj/caf%C3%A9/menu f:tea f:tea%20milk
-proj/docs - d
-proj/docs/index - f:i
-proj/tmp - f:t
-proj/tmp f:t -
-end 11
-";
-
-/// That of the second.
-const DESKTOP: &str = "treelog 1
-proj/README.md f:Hello%0A f:Hello%20you%0A
-proj/src/a/c - f:c
-proj/src/a-b f:dash f:dash2
-proj/docs - f:notes
-proj/100%25 f:full -
-proj/100%25 - d
-proj/100%25/part - f:p
-proj/caf%C3%A9/menu f:tea -
-proj/caf%C3%A9 d -
-proj/src/util.c - f:u2
-end 10
-";
-
-/// That of the third.
-const SERVER: &str = "treelog 1
-proj/100%25 f:full f:fuller
-proj/a%20b.txt f:one -
-proj/notes - d
-proj/notes/a%20b.txt - f:one
-proj/src/main.c f:int%20main; f:int%20main(void);
-proj/src/a/b f:slash f:slash2
-proj/caf%C3%A9/cake - f:yes
-proj/notes/a%20b.txt f:one f:two
-end 8
-";
-
-/// What is preferred of their changes.
-const PREFERRED: &str = "treeprefs 1
-at 2 proj/README.md
-under 3 proj/100%25
-at 2 proj/src/a/c
-all 1
-end 4
-";
-
-/// Their first merger under these rules.
-const MERGED: &str = "treelog 1
-proj/src/a/b f:slash -
-proj/a%20b.txt f:one -
-proj/100%25 f:full f:fuller
-proj/README.md f:Hello%0A f:Hello%20you%0A
-proj/caf%C3%A9/cake - f:yes
-proj/caf%C3%A9/menu f:tea f:tea%20milk
-proj/docs - d
-proj/docs/index - f:i
-proj/notes - d
-proj/notes/a%20b.txt - f:two
-proj/src/a/c - f:c
-proj/src/a-b f:dash f:dash2
-proj/src/main.c f:int%20main; f:int%20main(void);
-proj/src/util.c - f:u2
-end 14
-";
-
-/// The rules that steer to it.
-const STEERED: &str = "treeprefs 1
-at 1 proj/src/a/b
-at 3 proj/a%20b.txt
-at 3 proj/100%25
-at 2 proj/README.md
-at 3 proj/caf%C3%A9/cake
-at 1 proj/caf%C3%A9/menu
-at 1 proj/docs
-at 1 proj/docs/index
-at 3 proj/notes
-at 3 proj/notes/a%20b.txt
-at 2 proj/src/a/c
-at 2 proj/src/a-b
-at 1 proj/src/main.c
-at 1 proj/src/util.c
-end 14
-";
-
 /// Words, the file `p`, and what is printed.
 #[test]
 fn three_machines_are_merged(rt: HostRuntime) -> Result<(), Fail> {
@@ -607,6 +569,21 @@ fn three_machines_are_merged(rt: HostRuntime) -> Result<(), Fail> {
         ("merge --prefs p laptop desktop server", PREFERRED, MERGED),
         ("steer p laptop desktop server", MERGED, STEERED),
         ("merge --prefs=p laptop desktop server", STEERED, MERGED),
+        (
+            "transition --prefs p 1 laptop desktop server",
+            PREFERRED,
+            LAPTOP_LEFT,
+        ),
+        (
+            "transition --prefs p 2 laptop desktop server",
+            PREFERRED,
+            DESKTOP_LEFT,
+        ),
+        (
+            "transition --prefs p 3 laptop desktop server",
+            PREFERRED,
+            SERVER_LEFT,
+        ),
     ] {
         let mut files = MemFiles::new(alloc, Vec::new(alloc));
         for (name, text) in [

@@ -1,6 +1,7 @@
 use Rattle.std.proofs.Common.{map, string_bytes}
 use Rattle.tool_words.specs.Jobs.{job_of}
 use Rattle.treesync.proofs.HeadlineLemmas.{completes_merge, prints_merger, prints_steered}
+use Rattle.treesync.proofs.TransitionHeadline.{prints_transition}
 use Rattle.treesync.proofs.Unique.{answer_one}
 use Rattle.treesync.proofs.Words.{found_allowed, found_later, found_reads, none_failed, refused_means, seen_text}
 use Rattle.treesync.proofs.run.run.Goals as goal
@@ -21,6 +22,9 @@ returns-clause-ran g c = ran g c
 
 pub returns-clause-merges : goal.returns-clause-merges
 returns-clause-merges g c = prints_merger _ _ _ _ (ran g c)
+
+pub returns-clause-leads : goal.returns-clause-leads
+returns-clause-leads g c = prints_transition _ _ _ _ (ran g c)
 
 pub returns-clause-steers : goal.returns-clause-steers
 returns-clause-steers g c = prints_steered _ _ _ _ (ran g c)
