@@ -4,13 +4,14 @@ _treesync() {
   local word=${COMP_WORDS[COMP_CWORD]} place=$((COMP_CWORD - 2)) shape=() kind
   COMPREPLY=()
   if [ "$COMP_CWORD" -eq 1 ]; then
-    mapfile -t COMPREPLY < <(compgen -W "replay canon merge steer help" -- "$word")
+    mapfile -t COMPREPLY < <(compgen -W "replay canon merge transition steer help" -- "$word")
     return
   fi
   case ${COMP_WORDS[1]} in
     replay) shape=(file file) ;;
     canon) shape=(file) ;;
     merge) shape=(prefs file ...) ;;
+    transition) shape=(prefs number file ...) ;;
     steer) shape=(file file ...) ;;
     *) return ;;
   esac
