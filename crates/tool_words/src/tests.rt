@@ -79,7 +79,7 @@ fn job_text(alloc: Global, line: &str) -> Result<String, AllocError> {
     }
 }
 
-const CASES: [(&str, &str); 52] = [
+const CASES: [(&str, &str); 42] = [
     ("help", "help"),
     ("--help", "help"),
     ("replay s l1", "replay 1=s 2=l1"),

@@ -14,7 +14,7 @@ mod run;
 mod steer;
 #[cfg(test)]
 mod tests;
-mod transition;
+mod transitions;
 
 pub use self::refusal::{Finding, Refusal};
 use self::report::report;

@@ -14,7 +14,7 @@ use crate::merge::merge;
 use crate::replay::replay;
 use crate::report::report;
 use crate::steer::steer;
-use crate::transition::transition;
+use crate::transitions::transition;
 use std::alloc::Global;
 use sync_port::{Files, Sink};
 use tool_words::{Job, WordFault, help, read_words};

@@ -4,7 +4,7 @@ use Rattle.treesync.specs.Joining.{log_limits}
 use Rattle.treesync.specs.Preferences.{ArePreferences, preference_limits, preference_word}
 use Rattle.treesync.specs.Transition.{IsTransitionOf}
 use Rattle.treesync.proofs.CheckLemmas.{fewer_files, then_handed_on, then_next}
-use Rattle.treesync.proofs.transition.transition.Goals as goal
+use Rattle.treesync.proofs.transitions.transition.Goals as goal
 
 pub returns-in_err-rules : goal.returns-in_err-rules
 returns-in_err-rules g c =

@@ -2,7 +2,7 @@ use Rattle.std.proofs.Common.{rules, subst, sym}
 use Rattle.std.specs.List.{AllByRecursion}
 use Rattle.log_text.specs.Logs.{IsOfVersion}
 use Rattle.treesync.proofs.TransitionLemmas.{merger_drawn, merger_fits, transition_printable, transition_printed}
-use Rattle.treesync.proofs.transition.transition_text.Goals as goal
+use Rattle.treesync.proofs.transitions.transition_text.Goals as goal
 
 pub transition-requires-clause-drawn : goal.transition-requires-clause-drawn
 transition-requires-clause-drawn c =

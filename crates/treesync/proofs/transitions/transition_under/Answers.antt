@@ -5,7 +5,7 @@ use Rattle.treesync.specs.Transition.{IsTransitioned}
 use Rattle.treesync.specs.declared.logs.TheConstants.{FULL_ALLOWANCE}
 use Rattle.treesync.proofs.CheckLemmas.{judged_handed_on, judged_next, then_handed_on, then_judged}
 use Rattle.treesync.proofs.TransitionLemmas.{joined_many}
-use Rattle.treesync.proofs.transition.transition_under.Goals as goal
+use Rattle.treesync.proofs.transitions.transition_under.Goals as goal
 
 pub transitioned-requires-clause-number : goal.transitioned-requires-clause-number
 transitioned-requires-clause-number g c =

@@ -4,7 +4,7 @@ use Rattle.treesync.specs.Joining.{AreJoined}
 use Rattle.treesync.specs.Preferences.{IsRanked, RulesHold}
 use Rattle.treesync.specs.Transition.{IsTransitionText}
 use Rattle.treesync.proofs.CheckLemmas.{judged_handed_on, judged_next}
-use Rattle.treesync.proofs.transition.transitioned.Goals as goal
+use Rattle.treesync.proofs.transitions.transitioned.Goals as goal
 
 pub returns-in_err-ranking : goal.returns-in_err-ranking
 returns-in_err-ranking c = λ reads h.
