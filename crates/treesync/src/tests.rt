@@ -346,218 +346,248 @@ const FOLDER_MADE: &str = "treelog 1\na f:1 -\na - d\na/x - f:2\nend 3\n";
 const FILE_CHANGED: &str = "treelog 1\na f:1 f:3\nend 1\n";
 
 /// Words, the files `l1` and `l2`, a third text under the names `p` and `m`, the status, and what is written.
-#[test]
-fn merges_have_their_answers(rt: HostRuntime) -> Result<(), Fail> {
-    let alloc = rt.alloc();
-    let both = "treelog 1\na/x f:1 -\na/y - f:2\nend 2\n";
-    for (words, l1, l2, third, status, written) in [
-        ("merge", "", "", "", 2, "treesync: words refused\n"),
-        ("merge l1", NO_COMMANDS, "", "", 0, NO_COMMANDS),
-        ("merge l1 l2 l1", TWO_MADE, TWO_MADE, "", 0, TWO_MADE),
-        ("merge l1 l2", ONE_TWO, ONE_THREE, "", 0, ONE_TWO),
-        (
-            "merge --prefs p l1 l2",
-            ONE_TWO,
-            ONE_THREE,
-            "treeprefs 1\nat 2 a/x\nend 1\n",
-            0,
-            ONE_THREE,
-        ),
-        ("merge l1 l2", FOLDER_GONE, FILE_BESIDE, "", 0, FOLDER_GONE),
-        (
-            "merge --prefs=p l1 l2",
-            FOLDER_GONE,
-            FILE_BESIDE,
-            "treeprefs 1\nat 2 a/y\nend 1\n",
-            0,
-            both,
-        ),
-        (
-            "merge --prefs p l1 l2",
-            FOLDER_MADE,
-            FILE_CHANGED,
-            "treeprefs 1\nat 1 a/x\nat 2 a\nend 2\n",
-            0,
-            "treelog 1\na f:1 d\na/x - f:2\nend 2\n",
-        ),
-        (
-            "merge --prefs p l1 l2",
-            FOLDER_MADE,
-            FILE_CHANGED,
-            "treeprefs 1\nat 2 a\nend 1\n",
-            0,
-            FILE_CHANGED,
-        ),
-        (
-            "merge l1 l2",
-            "treelog 1\na d -\nend 1\n",
-            ONE_TWO,
-            "",
-            7,
-            "treesync: logs 1 and 2: no common tree at a/x\n",
-        ),
-        (
-            "merge l1 l2",
-            "treelog 1\na/x - f:1\nend 1\n",
-            "treelog 1\na - d\nend 1\n",
-            "",
-            7,
-            "treesync: logs 1 and 2: no common tree at a\n",
-        ),
-        (
-            "merge l1 l2",
-            "treelog 1\nt - d\nt d -\nend 2\n",
-            "treelog 2\nt - f:1\nend 1\n",
-            "",
-            0,
-            "treelog 2\nt - f:1\nend 1\n",
-        ),
-        (
-            "merge l1 l2",
-            NO_COMMANDS,
-            "",
-            "",
-            3,
-            "treesync: l2: read failed\n",
-        ),
-        (
-            "merge l1 l2",
-            TORN,
-            TORN,
-            "",
-            6,
-            "treesync: l1: line 3: no tree takes this log\n",
-        ),
-        (
-            "merge --prefs=p l1 l2",
-            FOLDER_GONE,
-            FILE_BESIDE,
-            "treeprefs 1\nat 3 a\nend 1\n",
-            13,
-            "treesync: p: line 2: no such log\n",
-        ),
-        (
-            "merge --prefs p l1 l2",
-            FOLDER_GONE,
-            FILE_BESIDE,
-            "treeprefs 1\nall 2\nat 2 a\nend 2\n",
-            13,
-            "treesync: p: line 3: no such command\n",
-        ),
-        (
-            "merge --prefs p l1 l2",
-            FOLDER_GONE,
-            FILE_BESIDE,
-            "treeprefs 1\nunder 1 zz\nend 1\n",
-            0,
-            FOLDER_GONE,
-        ),
-        (
-            "merge --prefs p l1",
-            NO_COMMANDS,
-            "",
-            "treeprefs 1\nat 0 a\nend 1\n",
-            5,
-            "treesync: p: line 2: number\n",
-        ),
-        (
-            "transition 3 l1 l2",
-            FOLDER_GONE,
-            FILE_BESIDE,
-            "",
-            2,
-            "treesync: words refused\n",
-        ),
-        (
-            "transition 1 l1 l2",
-            FOLDER_GONE,
-            FILE_BESIDE,
-            "",
-            0,
-            NO_COMMANDS,
-        ),
-        (
-            "transition 2 l1 l2",
-            FOLDER_GONE,
-            FILE_BESIDE,
-            "",
-            0,
-            "treelog 1\na/y f:2 -\na/x f:1 -\na d -\nend 3\n",
-        ),
-        (
-            "transition --prefs p 1 l1 l2",
-            FOLDER_GONE,
-            FILE_BESIDE,
-            "treeprefs 1\nat 2 a/y\nend 1\n",
-            0,
-            "treelog 1\na - d\na/y - f:2\nend 2\n",
-        ),
-        (
-            "transition --prefs=p 2 l1 l2",
-            FOLDER_GONE,
-            FILE_BESIDE,
-            "treeprefs 1\nat 2 a/y\nend 1\n",
-            0,
-            "treelog 1\na/x f:1 -\nend 1\n",
-        ),
-        (
-            "transition 1 l1 l2 m",
-            "treelog 2\na d d:x\nend 1\n",
-            FOLDER_GONE,
-            FILE_BESIDE,
-            0,
-            "treelog 2\na/x f:1 -\na/y - f:2\nend 2\n",
-        ),
-        (
-            "steer m l1 l2",
-            FOLDER_GONE,
-            FILE_BESIDE,
-            both,
-            0,
-            "treeprefs 1\nat 1 a/x\nat 2 a/y\nend 2\n",
-        ),
-        (
-            "steer m l1 l2",
-            FOLDER_GONE,
-            FILE_BESIDE,
-            "treelog 1\na/x f:1 -\nend 1\n",
-            14,
-            "treesync: m: can add log 1 at a\n",
-        ),
-        (
-            "steer m l1 l2",
-            FOLDER_GONE,
-            FILE_BESIDE,
-            "treelog 1\na d -\nend 1\n",
-            14,
-            "treesync: m: does not fit at a/x\n",
-        ),
-        (
-            "steer m l1 l2",
-            FOLDER_GONE,
-            FILE_BESIDE,
-            "treelog 1\na/q - d\nend 1\n",
-            14,
-            "treesync: m: not drawn at a/q\n",
-        ),
-        (
-            "steer m l1 l2",
-            TORN,
-            FILE_BESIDE,
-            TORN,
-            6,
-            "treesync: m: line 3: no tree takes this log\n",
-        ),
-    ] {
+type Case = (
+    &'static str,
+    &'static str,
+    &'static str,
+    &'static str,
+    u8,
+    &'static str,
+);
+
+/// The removed file, and the file beside it.
+const BOTH: &str = "treelog 1\na/x f:1 -\na/y - f:2\nend 2\n";
+
+/// Mergers, and why there is none.
+const MERGES: &[Case] = &[
+    ("merge", "", "", "", 2, "treesync: words refused\n"),
+    ("merge l1", NO_COMMANDS, "", "", 0, NO_COMMANDS),
+    ("merge l1 l2 l1", TWO_MADE, TWO_MADE, "", 0, TWO_MADE),
+    ("merge l1 l2", ONE_TWO, ONE_THREE, "", 0, ONE_TWO),
+    (
+        "merge --prefs p l1 l2",
+        ONE_TWO,
+        ONE_THREE,
+        "treeprefs 1\nat 2 a/x\nend 1\n",
+        0,
+        ONE_THREE,
+    ),
+    ("merge l1 l2", FOLDER_GONE, FILE_BESIDE, "", 0, FOLDER_GONE),
+    (
+        "merge --prefs=p l1 l2",
+        FOLDER_GONE,
+        FILE_BESIDE,
+        "treeprefs 1\nat 2 a/y\nend 1\n",
+        0,
+        BOTH,
+    ),
+    (
+        "merge --prefs p l1 l2",
+        FOLDER_MADE,
+        FILE_CHANGED,
+        "treeprefs 1\nat 1 a/x\nat 2 a\nend 2\n",
+        0,
+        "treelog 1\na f:1 d\na/x - f:2\nend 2\n",
+    ),
+    (
+        "merge --prefs p l1 l2",
+        FOLDER_MADE,
+        FILE_CHANGED,
+        "treeprefs 1\nat 2 a\nend 1\n",
+        0,
+        FILE_CHANGED,
+    ),
+    (
+        "merge l1 l2",
+        "treelog 1\na d -\nend 1\n",
+        ONE_TWO,
+        "",
+        7,
+        "treesync: logs 1 and 2: no common tree at a/x\n",
+    ),
+    (
+        "merge l1 l2",
+        "treelog 1\na/x - f:1\nend 1\n",
+        "treelog 1\na - d\nend 1\n",
+        "",
+        7,
+        "treesync: logs 1 and 2: no common tree at a\n",
+    ),
+    (
+        "merge l1 l2",
+        "treelog 1\nt - d\nt d -\nend 2\n",
+        "treelog 2\nt - f:1\nend 1\n",
+        "",
+        0,
+        "treelog 2\nt - f:1\nend 1\n",
+    ),
+    (
+        "merge l1 l2",
+        NO_COMMANDS,
+        "",
+        "",
+        3,
+        "treesync: l2: read failed\n",
+    ),
+    (
+        "merge l1 l2",
+        TORN,
+        TORN,
+        "",
+        6,
+        "treesync: l1: line 3: no tree takes this log\n",
+    ),
+    (
+        "merge --prefs=p l1 l2",
+        FOLDER_GONE,
+        FILE_BESIDE,
+        "treeprefs 1\nat 3 a\nend 1\n",
+        13,
+        "treesync: p: line 2: no such log\n",
+    ),
+    (
+        "merge --prefs p l1 l2",
+        FOLDER_GONE,
+        FILE_BESIDE,
+        "treeprefs 1\nall 2\nat 2 a\nend 2\n",
+        13,
+        "treesync: p: line 3: no such command\n",
+    ),
+    (
+        "merge --prefs p l1 l2",
+        FOLDER_GONE,
+        FILE_BESIDE,
+        "treeprefs 1\nunder 1 zz\nend 1\n",
+        0,
+        FOLDER_GONE,
+    ),
+    (
+        "merge --prefs p l1",
+        NO_COMMANDS,
+        "",
+        "treeprefs 1\nat 0 a\nend 1\n",
+        5,
+        "treesync: p: line 2: number\n",
+    ),
+];
+
+/// What each replica has to do.
+const TRANSITIONS: &[Case] = &[
+    (
+        "transition 3 l1 l2",
+        FOLDER_GONE,
+        FILE_BESIDE,
+        "",
+        2,
+        "treesync: words refused\n",
+    ),
+    (
+        "transition 1 l1 l2",
+        FOLDER_GONE,
+        FILE_BESIDE,
+        "",
+        0,
+        NO_COMMANDS,
+    ),
+    (
+        "transition 2 l1 l2",
+        FOLDER_GONE,
+        FILE_BESIDE,
+        "",
+        0,
+        "treelog 1\na/y f:2 -\na/x f:1 -\na d -\nend 3\n",
+    ),
+    (
+        "transition --prefs p 1 l1 l2",
+        FOLDER_GONE,
+        FILE_BESIDE,
+        "treeprefs 1\nat 2 a/y\nend 1\n",
+        0,
+        "treelog 1\na - d\na/y - f:2\nend 2\n",
+    ),
+    (
+        "transition --prefs=p 2 l1 l2",
+        FOLDER_GONE,
+        FILE_BESIDE,
+        "treeprefs 1\nat 2 a/y\nend 1\n",
+        0,
+        "treelog 1\na/x f:1 -\nend 1\n",
+    ),
+    (
+        "transition 1 l1 l2 m",
+        "treelog 2\na d d:x\nend 1\n",
+        FOLDER_GONE,
+        FILE_BESIDE,
+        0,
+        "treelog 2\na/x f:1 -\na/y - f:2\nend 2\n",
+    ),
+];
+
+/// The rules of a set, or what keeps it from being a merger.
+const STEERED_SETS: &[Case] = &[
+    (
+        "steer m l1 l2",
+        FOLDER_GONE,
+        FILE_BESIDE,
+        BOTH,
+        0,
+        "treeprefs 1\nat 1 a/x\nat 2 a/y\nend 2\n",
+    ),
+    (
+        "steer m l1 l2",
+        FOLDER_GONE,
+        FILE_BESIDE,
+        "treelog 1\na/x f:1 -\nend 1\n",
+        14,
+        "treesync: m: can add log 1 at a\n",
+    ),
+    (
+        "steer m l1 l2",
+        FOLDER_GONE,
+        FILE_BESIDE,
+        "treelog 1\na d -\nend 1\n",
+        14,
+        "treesync: m: does not fit at a/x\n",
+    ),
+    (
+        "steer m l1 l2",
+        FOLDER_GONE,
+        FILE_BESIDE,
+        "treelog 1\na/q - d\nend 1\n",
+        14,
+        "treesync: m: not drawn at a/q\n",
+    ),
+    (
+        "steer m l1 l2",
+        TORN,
+        FILE_BESIDE,
+        TORN,
+        6,
+        "treesync: m: line 3: no tree takes this log\n",
+    ),
+];
+
+/// Compares the answers of the cases.
+fn answer_cases<R: Abort>(rt: &R, alloc: Global, cases: &[Case]) -> Result<(), Fail> {
+    for (words, l1, l2, third, status, written) in cases {
         let mut files = MemFiles::new(alloc, Vec::new(alloc));
-        for (name, text) in [("l1", l1), ("l2", l2), ("p", third), ("m", third)] {
+        for (name, text) in [("l1", *l1), ("l2", *l2), ("p", *third), ("m", *third)] {
             if !text.is_empty() {
                 files.add(name, text.as_bytes())?;
             }
         }
         let got = ran(alloc, words, &mut files, 1000, 1000)?;
-        compare(&rt, &got, status, written.as_bytes());
+        compare(rt, &got, *status, written.as_bytes());
     }
+    Ok(())
+}
+
+#[test]
+fn joins_have_their_answers(rt: HostRuntime) -> Result<(), Fail> {
+    let alloc = rt.alloc();
+    answer_cases(&rt, alloc, MERGES)?;
+    answer_cases(&rt, alloc, TRANSITIONS)?;
+    answer_cases(&rt, alloc, STEERED_SETS)?;
     Ok(())
 }
 
