@@ -41,12 +41,12 @@ fn set_of(alloc: Global, lines: &[Line]) -> Result<CanonSet, Fail> {
     Ok(canon(alloc, &commands)?)
 }
 
-fn tree_of(alloc: Global, rows: &[Held], shots: Vec<Shot>) -> Result<Box<dyn Tree>, Fail> {
+fn tree_of(alloc: Global, rows: &[Held], shots: Vec<Shot>) -> Result<FuseTree, Fail> {
     let mut map = TreeMap::new(alloc);
     for (node, held) in rows {
         map.apply_owned(Command::new(path(alloc, node)?, Value::Empty, value(alloc, held)?)?)?;
     }
-    Ok(Box::new(alloc, FuseTree::new(map, shots))?)
+    Ok(FuseTree::new(map, shots))
 }
 
 fn holds_all(alloc: Global, tree: &mut Box<dyn Tree>, rows: &[Held]) -> Result<bool, Fail> {
@@ -186,14 +186,16 @@ fn sets_are_applied_whatever_stops_them(rt: HostRuntime) -> Result<(), Fail> {
     ];
     for case in &cases {
         let set = set_of(alloc, case.set)?;
-        let mut tree = tree_of(alloc, case.start, Vec::new(alloc))?;
+        let start = tree_of(alloc, case.start, Vec::new(alloc))?;
+        let mut tree: Box<dyn Tree> = Box::new(alloc, start)?;
         assert_eq!(rt; apply(alloc, &mut tree, &set)?.as_str(), case.answer);
         assert!(rt; holds_all(alloc, &mut tree, case.end)?);
         let work = tree.changed();
         // a stop at each call, done and not; the next run goes on from there
         for call in 1..40 {
             for done in [false, true] {
-                let mut tree = tree_of(alloc, case.start, vec![in alloc; Shot { call, done }]?)?;
+                let start = tree_of(alloc, case.start, vec![in alloc; Shot { call, done }]?)?;
+                let mut tree: Box<dyn Tree> = Box::new(alloc, start)?;
                 let first = apply(alloc, &mut tree, &set)?;
                 if first.as_str() == "failed" {
                     let again = apply(alloc, &mut tree, &set)?;

@@ -60,7 +60,7 @@ fn take<T: Tree>(
     node: &Path,
     step: &Step,
 ) -> Result<Result<(), TreeFault>, Fail> {
-    let told = match step {
+    let answer = match step {
         Step::Put(text) => return Ok(put(tree, node, &value(alloc, text)?)),
         Step::Label(text) => match value(alloc, text)? {
             Value::Dir(label) => return Ok(tree.set_label(node, &label)),
@@ -71,12 +71,50 @@ fn take<T: Tree>(
         Step::Holds(text) => tree.holds(node, &value(alloc, text)?),
         Step::Lists(texts) => lists(tree, alloc, Some(node), texts),
     };
-    Ok(match told {
+    Ok(match answer {
         Ok(true) => Ok(()),
         Ok(false) => Err(TreeFault::Denied),
         Err(fault) => Err(fault),
     })
 }
+
+const DENIED: Result<(), TreeFault> = Err(TreeFault::Denied);
+
+const FAILED: Result<(), TreeFault> = Err(TreeFault::Failed);
+
+/// Nodes, what is done at each, and the answer.
+const STEPS: &[(&'static str, Step, Result<(), TreeFault>)] = &[
+    ("a/x", Step::Put("f:1"), DENIED),
+    ("a", Step::Holds("-"), Ok(())),
+    ("a", Step::Put("d:x"), Ok(())),
+    ("a", Step::Put("d:x"), DENIED),
+    ("a", Step::Put("f:1"), DENIED),
+    ("a", Step::Holds("d:x"), Ok(())),
+    ("a/x", Step::Put("f:1"), Ok(())),
+    ("a/x", Step::Put("f:23"), Ok(())),
+    ("a/x", Step::Holds("f:23"), Ok(())),
+    ("a/x", Step::Holds("f:24"), DENIED),
+    ("a/x", Step::Holds("f:2"), DENIED),
+    ("a/x/y", Step::Kind(Kind::Empty), Ok(())),
+    ("a/x/y", Step::Put("d"), DENIED),
+    ("a/b", Step::Put("d"), Ok(())),
+    ("a", Step::Lists(&["a/b", "a/x"]), Ok(())),
+    ("a", Step::Remove, DENIED),
+    ("a", Step::Label("d:y"), Ok(())),
+    ("a", Step::Holds("d:y"), Ok(())),
+    ("l/out", Step::Kind(Kind::Dir), FAILED),
+    ("l/out", Step::Put("f:1"), FAILED),
+    ("l/out/sub", Step::Put("d"), FAILED),
+    ("l/out", Step::Remove, FAILED),
+    ("a/b", Step::Remove, Ok(())),
+    ("a/x", Step::Remove, Ok(())),
+    ("a/x", Step::Remove, DENIED),
+    ("a", Step::Remove, Ok(())),
+    ("a", Step::Kind(Kind::Empty), Ok(())),
+    ("b", Step::Put("d"), Ok(())),
+    ("b", Step::Label("d"), Ok(())),
+    ("b", Step::Remove, Ok(())),
+];
 
 #[test]
 fn a_folder_serves_as_a_tree(rt: HostRuntime) -> Result<(), Fail> {
@@ -97,49 +135,10 @@ fn a_folder_serves_as_a_tree(rt: HostRuntime) -> Result<(), Fail> {
     fs::create_dir(&rt, inside("l")?.as_str())?;
     let outside = format!(in alloc; "{}", place.display())?;
     std::rt::Files::symlink(&rt, outside.as_str(), inside("l/out")?.as_str())?;
-    let denied = Err(TreeFault::Denied);
-    let failed = Err(TreeFault::Failed);
-    let steps = [
-        ("a/x", Step::Put("f:1"), denied),
-        ("a", Step::Holds("-"), Ok(())),
-        ("a", Step::Put("d:x"), Ok(())),
-        ("a", Step::Put("d:x"), denied),
-        ("a", Step::Put("f:1"), denied),
-        ("a", Step::Holds("d:x"), Ok(())),
-        ("a/x", Step::Put("f:1"), Ok(())),
-        ("a/x", Step::Put("f:23"), Ok(())),
-        ("a/x", Step::Holds("f:23"), Ok(())),
-        ("a/x", Step::Holds("f:24"), denied),
-        ("a/x", Step::Holds("f:2"), denied),
-        ("a/x/y", Step::Kind(Kind::Empty), Ok(())),
-        ("a/x/y", Step::Put("d"), denied),
-        ("a/b", Step::Put("d"), Ok(())),
-        ("a", Step::Lists(&["a/b", "a/x"]), Ok(())),
-        ("a", Step::Remove, denied),
-        ("a", Step::Label("d:y"), Ok(())),
-        ("a", Step::Holds("d:y"), Ok(())),
-        ("l/out", Step::Kind(Kind::Dir), failed),
-        ("l/out", Step::Put("f:1"), failed),
-        ("l/out/sub", Step::Put("d"), failed),
-        ("l/out", Step::Remove, failed),
-        ("a/b", Step::Remove, Ok(())),
-        ("a/x", Step::Remove, Ok(())),
-        ("a/x", Step::Remove, denied),
-        ("a", Step::Remove, Ok(())),
-        ("a", Step::Kind(Kind::Empty), Ok(())),
-        ("b", Step::Put("d"), Ok(())),
-        ("b", Step::Label("d"), Ok(())),
-        ("b", Step::Remove, Ok(())),
-    ];
     let mut tree = HostTree::new(&rt, alloc, &folder)?;
-    let mut done = 0;
-    for (node, step, expected) in steps {
-        let changes = tree.changed();
-        let answer = take(&mut tree, alloc, &path(alloc, node)?, &step)?;
-        assert_eq!(rt; answer, expected);
-        if tree.changed() > changes {
-            done += 1;
-        }
+    for (node, step, expected) in STEPS {
+        let answer = take(&mut tree, alloc, &path(alloc, node)?, step)?;
+        assert!(rt; answer == *expected);
     }
     let answer = lists(&mut tree, alloc, None, &["l"])?;
     fs::remove_file(&rt, inside("l/out")?.as_str())?;
@@ -147,6 +146,6 @@ fn a_folder_serves_as_a_tree(rt: HostRuntime) -> Result<(), Fail> {
     // nothing of the adapter's own is left
     fs::remove_dir(&rt, folder.as_str())?;
     assert!(rt; answer);
-    assert_eq!(rt; done, 11);
+    assert_eq!(rt; tree.changed(), 11);
     Ok(())
 }
