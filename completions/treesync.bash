@@ -4,15 +4,19 @@ _treesync() {
   local word=${COMP_WORDS[COMP_CWORD]} place=$((COMP_CWORD - 2)) shape=() kind
   COMPREPLY=()
   if [ "$COMP_CWORD" -eq 1 ]; then
-    mapfile -t COMPREPLY < <(compgen -W "replay canon merge transition steer help" -- "$word")
+    mapfile -t COMPREPLY < <(compgen -W "replay canon conflicts merge transition steer seal apply drill help" -- "$word")
     return
   fi
   case ${COMP_WORDS[1]} in
     replay) shape=(file file) ;;
     canon) shape=(file) ;;
+    conflicts) shape=(file ...) ;;
     merge) shape=(prefs file ...) ;;
     transition) shape=(prefs number file ...) ;;
     steer) shape=(file file ...) ;;
+    seal) shape=(folder file) ;;
+    apply) shape=(folder file) ;;
+    drill) shape=(number number number) ;;
     *) return ;;
   esac
   if [ "${shape[0]-}" = prefs ]; then

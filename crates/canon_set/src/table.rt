@@ -132,7 +132,8 @@ impl Table {
     pub(crate) fn reserve(&mut self, above: usize) -> Result<(), NoMemory>
         ensures touched { touches_in self.new ≡ touches_in self.old }
         ensures entries { (p : Node) → entry_at self.new p ≡ entry_at self.old p }
-        ensures ok { OnOk result ((0 < spare self.new.touched) × (above ≤ spare self.new.above)) }
+        ensures ok { OnOk result ((0 < spare self.new.touched)
+            × (above ≤ spare self.new.above)) }
     {
         self.touched.reserve(1)?;
         self.above.reserve(above)?;
@@ -192,7 +193,8 @@ impl Table {
     fn put(&mut self, command: Command, children: usize)
         requires untouched { place_of (touches_in self.old) command.node ≡ None }
         requires room { 0 < spare self.old.touched }
-        ensures touched { touches_in self.new ≡ touches_in self.old ++ first_touch_of command ∷ [] }
+        ensures touched { touches_in self.new ≡ touches_in self.old
+            ++ first_touch_of command ∷ [] }
         ensures entries { (p : Node) → entry_at self.new p ≡ cond (is_eq (path_cmp command.node p))
             (Some (record { place = Some (length (touches_in self.old)); children = children }))
             (entry_at self.old p) }

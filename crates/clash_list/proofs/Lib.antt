@@ -4,3 +4,4 @@ pub mod Families
 pub mod Walking
 pub mod ClashLaws
 pub mod Listing
+pub mod CallerLemmas

@@ -7,8 +7,6 @@ mod clashes;
 mod cursor;
 mod drawn;
 pub mod laws;
-#[cfg(test)]
-mod tests;
 mod walk;
 
 pub use self::clashes::{Clash, Clashes};

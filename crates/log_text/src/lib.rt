@@ -21,6 +21,3 @@ pub use self::log::{print_log, read_log};
 pub use self::open_log::read_open_log;
 pub use self::reader::LogReader;
 pub use self::snapshot::{print_snapshot, read_snapshot};
-
-#[cfg(test)]
-mod tests;

@@ -244,7 +244,8 @@ impl LineReader {
             Knows F.first F.judge F.holds self form.now past text →
             Finishes F.first F.judge F.holds form.now past text result }
         ensures again { (f : _) → self.stage ≡ Stage.Refused f → result ≡ Err f }
-        ensures memory { result ≡ Err LogFault.Memory → self.stage ≡ Stage.Refused LogFault.Memory }
+        ensures memory { result ≡ Err LogFault.Memory →
+            self.stage ≡ Stage.Refused LogFault.Memory }
     {
         match self.stage {
             Stage::Start => Err(header_fault()),

@@ -70,7 +70,8 @@ pub fn read_row(
 ) -> Result<Row, LineFault>
     requires tree { IsRowTree rows.now.items }
     requires given { IsGivenDir rows.now.items directory.old }
-    ensures gives { GivesLine result (row_of version rows.now.items (path.now ∷ value.now ∷ [])) }
+    ensures gives { GivesLine result
+        (row_of version rows.now.items (path.now ∷ value.now ∷ [])) }
     ensures few { OnOk result (length rows.now.items < MAX_ITEMS) }
     ensures given { IsGivenDir rows.now.items directory.new }
 {

@@ -9,8 +9,6 @@ pub mod laws;
 mod merging;
 mod parents;
 mod steering_rules;
-#[cfg(test)]
-mod tests;
 
 pub use self::board_scan::{Scanned, scan, turn};
 pub use self::checking::{Verdict, check};

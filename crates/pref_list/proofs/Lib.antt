@@ -4,6 +4,7 @@ pub mod Places
 pub mod Named
 pub mod Ends
 pub mod Numbering
+pub mod InOrder
 pub mod Numbered
 pub mod Ordering
 pub mod Within

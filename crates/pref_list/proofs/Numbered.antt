@@ -11,20 +11,22 @@ use Rattle.sync_command.specs.Changes.{Change}
 use Rattle.refluent.specs.declared.joint.Pick.{Pick}
 use Rattle.pref_list.specs.Picks.{command_of}
 use Rattle.pref_list.specs.Ranking.{set_from, set_of}
-use Rattle.pref_list.specs.Numbers.{AreNodesOf, AreAllNodesOf, AreNumbersOf, AreNumbered, AreChained, AreCovered, IsLastOf, KeepNumbers, numbered}
+use Rattle.pref_list.specs.Numbers.{AreNodesOf, AreAllNodesOf, AreNumbersOf, AreNumbered, AreBefore, AreChained, AreCovered, IsLastOf, KeepNumbers, numbered}
 use Rattle.std.proofs.Common.{replicate}
 use Rattle.pref_list.proofs.Ends.{last_or}
 use Rattle.pref_list.proofs.Named.{set_of_next}
 
 -- the numbers of the first so many commands
-pub record NumbersTo (sets : List (List Change)) (nodes : List Row) (first picks : List Pick) (heads nexts : List (Option ℕ)) (cs : List Change) (n : ℕ) (numbers : List ℕ) : Type 0 where
+pub record NumbersTo (sets : List (List Change)) (nodes : List Row) (first picks : List Pick) (heads nexts : List (Option ℕ)) (cs : List Change) (log n : ℕ) (numbers : List ℕ) : Type 0 where
+  pub before : AreBefore picks log n
   pub chained : AreChained sets nodes picks heads nexts
   pub kept : KeepNumbers sets first picks
   pub many : length numbers ≡ n
   pub each : (i m : ℕ) (c : Change) → slice_get numbers i ≡ Some m → slice_get cs i ≡ Some c → numbered sets picks m ≡ Some c
 
-pub none_yet : (sets : List (List Change)) (nodes : List Row) (picks : List Pick) (heads nexts : List (Option ℕ)) (cs : List Change) → AreChained sets nodes picks heads nexts → NumbersTo sets nodes picks picks heads nexts cs 0 []
-none_yet sets nodes picks heads nexts cs chained = record {
+pub none_yet : (sets : List (List Change)) (nodes : List Row) (picks : List Pick) (heads nexts : List (Option ℕ)) (cs : List Change) (log : ℕ) → AreBefore picks log 0 → AreChained sets nodes picks heads nexts → NumbersTo sets nodes picks picks heads nexts cs log 0 []
+none_yet sets nodes picks heads nexts cs log before chained = record {
+  before = before;
   chained = chained;
   kept = λ m c e. e;
   many = refl;
@@ -32,9 +34,10 @@ none_yet sets nodes picks heads nexts cs chained = record {
 }
 
 pub one_more : (sets : List (List Change)) (nodes : List Row) (first picks more : List Pick) (heads nexts heads2 nexts2 : List (Option ℕ)) (log n : ℕ) (numbers all : List ℕ) (own : ℕ) →
-    NumbersTo sets nodes first picks heads nexts (set_of sets log) n numbers → AreChained sets nodes more heads2 nexts2 → KeepNumbers sets picks more → numbered sets more own ≡ command_of sets (record { log = log; place = n }) → all ≡ numbers ++ own ∷ [] →
-    NumbersTo sets nodes first more heads2 nexts2 (set_of sets log) (n + 1) all
-one_more sets nodes first picks more heads nexts heads2 nexts2 log n numbers all own so chained kept here is = record {
+    NumbersTo sets nodes first picks heads nexts (set_of sets log) log n numbers → AreBefore more log (n + 1) → AreChained sets nodes more heads2 nexts2 → KeepNumbers sets picks more → numbered sets more own ≡ command_of sets (record { log = log; place = n }) → all ≡ numbers ++ own ∷ [] →
+    NumbersTo sets nodes first more heads2 nexts2 (set_of sets log) log (n + 1) all
+one_more sets nodes first picks more heads nexts heads2 nexts2 log n numbers all own so before chained kept here is = record {
+  before = before;
   chained = chained;
   kept = λ m c e. kept m c (so.kept m c e);
   many = ap length is ∙ length-append numbers (own ∷ []) ∙ (let m = so.many in omega arith);
@@ -52,13 +55,15 @@ covered_kept sets old new n kept covered l i c low e = let m = covered l i c low
 
 -- the numbers of the first so many sets
 pub record AllNumbersTo (sets : List (List Change)) (nodes : List Row) (picks : List Pick) (heads nexts : List (Option ℕ)) (n : ℕ) (lists : List (Vec ℕ Global)) : Type 0 where
+  pub before : AreBefore picks (n + 1) 0
   pub chained : AreChained sets nodes picks heads nexts
   pub many : length lists ≡ n
   pub each : (l : ℕ) (numbers : Vec ℕ Global) → slice_get lists l ≡ Some numbers → AreNumbersOf sets picks (set_from sets l) numbers.items
   pub covered : AreCovered sets picks n
 
-pub no_lists : (sets : List (List Change)) (nodes : List Row) (picks : List Pick) (heads nexts : List (Option ℕ)) → AreChained sets nodes picks heads nexts → AllNumbersTo sets nodes picks heads nexts 0 []
-no_lists sets nodes picks heads nexts chained = record {
+pub no_lists : (sets : List (List Change)) (nodes : List Row) (picks : List Pick) (heads nexts : List (Option ℕ)) → AreBefore picks 1 0 → AreChained sets nodes picks heads nexts → AllNumbersTo sets nodes picks heads nexts 0 []
+no_lists sets nodes picks heads nexts before chained = record {
+  before = before;
   chained = chained;
   many = refl;
   each = λ l v e. cc (e);
@@ -72,9 +77,10 @@ numbers_kept sets old new cs numbers kept are = record {
 }
 
 pub one_list_more : (sets : List (List Change)) (nodes : List Row) (picks more : List Pick) (heads nexts heads2 nexts2 : List (Option ℕ)) (n : ℕ) (lists all : List (Vec ℕ Global)) (own : Vec ℕ Global) →
-    AllNumbersTo sets nodes picks heads nexts n lists → AreChained sets nodes more heads2 nexts2 → KeepNumbers sets picks more → AreNumbersOf sets more (set_of sets (n + 1)) own.items → all ≡ lists ++ own ∷ [] →
+    AllNumbersTo sets nodes picks heads nexts n lists → AreBefore more (n + 1 + 1) 0 → AreChained sets nodes more heads2 nexts2 → KeepNumbers sets picks more → AreNumbersOf sets more (set_of sets (n + 1)) own.items → all ≡ lists ++ own ∷ [] →
     AllNumbersTo sets nodes more heads2 nexts2 (n + 1) all
-one_list_more sets nodes picks more heads nexts heads2 nexts2 n lists all own so chained kept made is = record {
+one_list_more sets nodes picks more heads nexts heads2 nexts2 n lists all own so before chained kept made is = record {
+  before = before;
   chained = chained;
   many = ap length is ∙ length-append lists (own ∷ []) ∙ (let m = so.many in omega arith);
   each = λ l v e. go l v (last_or lists own l v (ap (λ x. slice_get x l) (sym is) ∙ e));
@@ -102,6 +108,7 @@ all_numbered sets nodes picks heads nexts n lists so e = record {
   each = so.each;
   different = so.chained.different;
   least = so.chained.linked.least;
+  order = so.before.order;
 }
 
 -- ---- nothing is numbered at first

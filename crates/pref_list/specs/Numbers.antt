@@ -1,5 +1,5 @@
 -- The nodes of the net commands, and the numbers of the drawn ones.
-use Rattle.std.specs.Prelude.{◌≡◌, ◌<◌, ◌≤◌, ℕ, List, [], ◌∷◌, ◌++◌, Vec, length, slice_get, slice_set, Option, Some, None}
+use Rattle.std.specs.Prelude.{◌≡◌, ◌⊎◌, ◌<◌, ◌≤◌, ℕ, List, [], ◌∷◌, ◌++◌, Vec, length, slice_get, slice_set, Option, Some, None}
 use Rattle.std.specs.Global.{Global}
 use Rattle.std.specs.Option.{option_and_then}
 use Rattle.sync_path.specs.Paths.{Node}
@@ -51,12 +51,27 @@ AreDifferent sets picks = (m n : ℕ) (c : Change) → numbered sets picks m ≡
 abbrev pub AreLeast : List (List Change) → List Pick → Type 0
 AreLeast sets picks = (m : ℕ) (pick : Pick) → slice_get picks m ≡ Some pick → (c : Change) × (command_of sets pick ≡ Some c) × (pick.log ≡ log_of sets c)
 
--- each drawn command has one number, which is that of its pick, and each net command has the number of the equal drawn one
+-- a pick comes before another: it is of an earlier log, or at an earlier place of the same one
+abbrev pub ComesBefore : Pick → Pick → Type 0
+ComesBefore a b = (a.log < b.log) ⊎ ((a.log ≡ b.log) × (a.place < b.place))
+
+-- the picks go by their logs, and within a log by their places
+abbrev pub AreInOrder : List Pick → Type 0
+AreInOrder picks = (m n : ℕ) (a b : Pick) → m < n → slice_get picks m ≡ Some a → slice_get picks n ≡ Some b → ComesBefore a b
+
+-- they do, and all come before the place of the log
+pub record AreBefore (picks : List Pick) (log place : ℕ) : Type 0 where
+  pub order : AreInOrder picks
+  pub all : (m : ℕ) (a : Pick) → slice_get picks m ≡ Some a → ComesBefore a (record { log = log; place = place })
+
+-- each drawn command has one number, which is that of its pick, and each net command has the number of the equal drawn
+-- one; the numbers go by the least log that has the command, and then by the place in its net set
 pub record AreNumbered (sets : List (List Change)) (picks : List Pick) (lists : List (Vec ℕ Global)) : Type 0 where
   pub many : length lists ≡ length sets
   pub each : (l : ℕ) (numbers : Vec ℕ Global) → slice_get lists l ≡ Some numbers → AreNumbersOf sets picks (set_from sets l) numbers.items
   pub different : AreDifferent sets picks
   pub least : AreLeast sets picks
+  pub order : AreInOrder picks
 
 -- all commands of the first so many sets have numbers
 abbrev pub AreCovered : List (List Change) → List Pick → ℕ → Type 0

@@ -13,8 +13,6 @@ mod ranking;
 mod rule_list;
 mod rules;
 mod stages;
-#[cfg(test)]
-mod tests;
 
 pub use self::faults::RankFault;
 pub use self::nodes::{find_node, nodes_of, place_of};

@@ -16,7 +16,8 @@ use sync_path::{NoMemory, Path};
 pub fn find_node(joint: &Joint, path: &Path) -> Option<usize>
     requires { is_ascending joint.now.nodes ≡ true }
     ensures some { IfSome result (λ place. IsNodeAt joint.now.nodes place path.now) }
-    ensures none { IfNone result ((place : ℕ) → IsNodeAt joint.now.nodes place path.now → ⊥) }
+    ensures none { IfNone result ((place : ℕ) → IsNodeAt joint.now.nodes place path.now →
+        ⊥) }
 {
     let mut low = 0;
     let mut high = joint.nodes();

@@ -1,11 +1,11 @@
 //! The numbers of the drawn commands: equal net commands of several logs have one.
 
-ghost use Rattle.std.specs.Prelude.{◌≡◌, ◌<◌, ◌≤◌, ◌-◌, ℕ, true, length, slice_get, Some, IfOk, OnOk, IfSome, IfNone};
+ghost use Rattle.std.specs.Prelude.{◌≡◌, ◌<◌, ◌≤◌, ◌+◌, ◌-◌, [], ℕ, true, length, slice_get, Some, IfOk, OnOk, IfSome, IfNone};
 ghost use Rattle.sync_command.specs.Changes.{Change};
 ghost use Rattle.refluent.specs.Joints.{is_ascending};
 ghost use Rattle.pref_list.specs.Ranking.{set_of};
 ghost use Rattle.pref_list.specs.Picks.{command_of, log_of};
-ghost use Rattle.pref_list.specs.Numbers.{IsNodeAt, IsPick, IsLastOf, AreLinked, AreCovered, AreNodesOf, AreNumbersOf, KeepNumbers, AddsPick, numbered, IsChainsOf, IsNumberingOf};
+ghost use Rattle.pref_list.specs.Numbers.{IsNodeAt, IsPick, IsLastOf, AreLinked, AreCovered, AreNodesOf, AreNumbersOf, AreBefore, KeepNumbers, AddsPick, numbered, IsChainsOf, IsNumberingOf};
 
 use crate::nodes::{commands_of, nodes_of};
 use refluent::{Joint, Pick};
@@ -85,7 +85,9 @@ fn number(joint: &Joint, chains: &mut Chains, node: usize, pick: Pick) -> Result
     requires node { (c : Change) → command_of joint.now.sets pick ≡ Some c →
         IsNodeAt joint.now.nodes node c.node }
     requires covered { AreCovered joint.now.sets chains.old.picks.items (pick.log - 1) }
+    requires before { AreBefore chains.old.picks.items pick.log pick.place }
     ensures chained { OnOk result (IsChainsOf joint.now chains.new) }
+    ensures before { OnOk result (AreBefore chains.new.picks.items pick.log (pick.place + 1)) }
     ensures number { IfOk result (λ m.
         numbered joint.now.sets chains.new.picks.items m ≡ command_of joint.now.sets pick) }
     ensures kept { OnOk result (KeepNumbers joint.now.sets chains.old.picks.items
@@ -116,7 +118,9 @@ fn number_set(
     requires chained { IsChainsOf joint.now chains.old }
     requires nodes { AreNodesOf joint.now.nodes (set_of joint.now.sets log) nodes.now }
     requires covered { AreCovered joint.now.sets chains.old.picks.items (log - 1) }
+    requires before { AreBefore chains.old.picks.items log 0 }
     ensures chained { OnOk result (IsChainsOf joint.now chains.new) }
+    ensures before { OnOk result (AreBefore chains.new.picks.items (log + 1) 0) }
     ensures numbers { IfOk result (λ numbers.
         AreNumbersOf joint.now.sets chains.new.picks.items (set_of joint.now.sets log)
         numbers.items) }
@@ -134,7 +138,8 @@ fn number_set(
 
 /// Nothing is numbered.
 fn no_chains(alloc: Global, joint: &Joint) -> Result<Chains, NoMemory>
-    ensures { IfOk result (IsChainsOf joint.now) }
+    ensures chained { IfOk result (IsChainsOf joint.now) }
+    ensures none { IfOk result (λ chains. chains.picks.items ≡ []) }
 {
     let none: Option<usize> = None;
     Ok(Chains {

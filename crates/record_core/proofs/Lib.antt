@@ -11,4 +11,9 @@ pub mod Planned
 pub mod LabelWalks
 pub mod Operations
 pub mod ScriptRuns
+pub mod Looked
+pub mod SealedLists
+pub mod SealLaws
+pub mod CallerLemmas
+pub mod OpenTexts
 mod Rows

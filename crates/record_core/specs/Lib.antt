@@ -8,3 +8,5 @@ pub mod Reading
 pub mod Steps
 pub mod Plans
 pub mod Outcomes
+pub mod Looks
+pub mod Seals

@@ -5,6 +5,7 @@ mod changing;
 mod faults;
 mod framing;
 mod labelling;
+pub mod laws;
 mod limits;
 mod log_size;
 mod measuring;
@@ -13,14 +14,18 @@ mod planning;
 mod reading;
 mod recording;
 mod script;
+mod sealing;
 mod stepping;
 mod steps;
 mod subtrees;
+#[cfg(test)]
+mod tests;
 mod walking;
 mod words;
 
-pub use self::faults::{RecordFault, Why};
+pub use self::faults::{RecordFault, SealFault, Why};
 pub use self::limits::MAX_LOG_LEN;
 pub use self::ops::Op;
 pub use self::recording::record;
 pub use self::script::read_script;
+pub use self::sealing::seal;

@@ -125,7 +125,8 @@ fn record_opened<O: Sink>(
 /// operation's first command, and the log of the operations before is closed. A fault of the tree or the sink comes
 /// only where it was counted there, and `TreeDenied` never from a tree whose contents are known. After any refusal but
 /// the first two the log is left open: its complete lines are those of a first part of the script's commands, and the
-/// tree is the result of these, or of all but the last. `docs/MODEL.md` has the meaning of the operations.
+/// tree is the result of these, or of all but the last. `docs/MODEL.md` has the meaning of the operations. There is no
+/// condition ("Boxes of trees" in `docs/DECISIONS.md`).
 pub fn record<O: Sink>(
     alloc: Global,
     tree: &mut Box<dyn Tree>,
@@ -133,6 +134,7 @@ pub fn record<O: Sink>(
     script: &[Op],
     sink: &mut O,
 ) -> Result<u64, RecordFault>
+    requires { ⊤ }
     ensures cause { HasCause result
         (O.sink sink.old) (O.sink sink.new) (live tree.old) (live tree.new) }
     ensures never_denied { WhereKnown (live tree.old)

@@ -51,7 +51,8 @@ pub(crate) fn list_subtree(
     tree: &mut Box<dyn Tree>,
     path: &Path,
 ) -> Result<Vec<Path>, RecordFault>
-    requires { WhereKnown (live tree.old) (λ m. IsTreeMap m × (is_empty (at m path.now) ≡ false)) }
+    requires { WhereKnown (live tree.old)
+        (λ m. IsTreeMap m × (is_empty (at m path.now) ≡ false)) }
     ensures cause { ReadsTree result (live tree.old) (live tree.new) }
     ensures below { IfOk result (λ paths. All (IsAtOrUnder path.now) paths.items) }
     ensures known { WhereKnown (live tree.old)

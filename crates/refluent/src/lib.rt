@@ -13,8 +13,6 @@ pub mod laws;
 mod numbering;
 mod parts;
 mod table;
-#[cfg(test)]
-mod tests;
 
 pub use self::faults::JoinFault;
 pub use self::joining::join;

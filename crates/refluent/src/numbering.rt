@@ -19,7 +19,8 @@ use sync_path::NoMemory;
 
 /// Whether the command from the one value to the other is down.
 fn is_down(first: &Value, last: &Value) -> bool
-    ensures { (p : Node) → result ≡ is_down (record { node = p; old = first.now; new = last.now }) }
+    ensures { (p : Node) → result ≡ is_down
+        (record { node = p; old = first.now; new = last.now }) }
 {
     last.is_empty() || (first.is_dir() && !last.is_dir())
 }
@@ -207,7 +208,8 @@ pub(crate) fn number_commands(
     requires logs { AreOfLogs claims.now count }
     requires ordered { AreOrdered claims.now }
     requires table { IsTable claims.now groups.now }
-    ensures links { IfOk result (λ r. AreLinks claims.now groups.now r.0.items (length groups.now)) }
+    ensures links { IfOk result (λ r.
+        AreLinks claims.now groups.now r.0.items (length groups.now)) }
     ensures numbered { IfOk result (λ r. IsNumbered claims.now (length claims.now) r.1) }
 {
     let mut numbering = Numbering::new(alloc, claims, count)?;

@@ -151,7 +151,8 @@ pub(crate) fn run<'a>(claims: &'a [Claim], group: Group) -> &'a [Claim]
 
 /// Clears the demands.
 fn clear(demands: &mut [Demand<'_>])
-    ensures { (k : ℕ) (d : Demand) → slice_get demands.new k ≡ Some d → demanded d ≡ Anything }
+    ensures { (k : ℕ) (d : Demand) → slice_get demands.new k ≡ Some d →
+        demanded d ≡ Anything }
 {
     'demands: for place in 0..demands.len() {
         demands[place] = Demand::Anything;

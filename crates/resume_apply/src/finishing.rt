@@ -6,7 +6,7 @@ ghost use Rattle.sync_command.specs.Values.{is_empty};
 ghost use Rattle.sync_command.specs.declared.values.Value.TheVariants.{Empty};
 ghost use Rattle.tree_port.specs.States.{IfTreeKnown, WhereKnown};
 ghost use Rattle.tree_port.specs.Conditions.{CanRemove};
-ghost use Rattle.tree_port.specs.Calls.{Answers, IsChanging, IsReading, Puts, TellsIfHeld};
+ghost use Rattle.tree_port.specs.Calls.{Answers, IsChanging, IsReading, Puts, AnswersIfHeld};
 ghost use Rattle.resume_apply.specs.Ready.{IsReady, changes_kind};
 ghost use Rattle.resume_apply.specs.Finishing.{CanChange, CanDo, Does, Finishes};
 
@@ -29,7 +29,7 @@ pub(crate) fn changes_kind(command: &Command) -> bool
 /// Whether the node holds the value.
 pub(crate) fn holds(tree: &mut Box<dyn Tree>, path: &Path, value: &Value) -> Result<bool, TreeFault>
     ensures reading { IsReading result (live tree.old) (live tree.new) }
-    ensures answer { WhereKnown (live tree.old) (TellsIfHeld path.now value.now result) }
+    ensures answer { WhereKnown (live tree.old) (AnswersIfHeld path.now value.now result) }
 {
     tree.holds(path, value)
 }
@@ -37,7 +37,8 @@ pub(crate) fn holds(tree: &mut Box<dyn Tree>, path: &Path, value: &Value) -> Res
 /// Whether the node is empty.
 pub(crate) fn is_empty_at(tree: &mut Box<dyn Tree>, path: &Path) -> Result<bool, TreeFault>
     ensures reading { IsReading result (live tree.old) (live tree.new) }
-    ensures answer { WhereKnown (live tree.old) (λ m. Answers ⊤ (λ b. b ≡ is_empty (at m path.now)) result) }
+    ensures answer { WhereKnown (live tree.old)
+        (λ m. Answers ⊤ (λ b. b ≡ is_empty (at m path.now)) result) }
 {
     match tree.kind(path) {
         Ok(Kind::Empty) => Ok(true),
@@ -50,16 +51,19 @@ pub(crate) fn is_empty_at(tree: &mut Box<dyn Tree>, path: &Path) -> Result<bool,
 fn remove(tree: &mut Box<dyn Tree>, path: &Path) -> Result<(), TreeFault>
     requires { WhereKnown (live tree.old) (λ m. CanRemove (at m) path.now) }
     ensures counts { IsChanging result (live tree.old) (live tree.new) }
-    ensures contents { IfTreeKnown (live tree.old) (live tree.new) (λ m n. Puts ⊤ path.now Empty result m n) }
+    ensures contents { IfTreeKnown (live tree.old) (live tree.new)
+        (λ m n. Puts ⊤ path.now Empty result m n) }
 {
     tree.remove(path)
 }
 
 /// Gives the node its new value by one call.
 fn change(tree: &mut Box<dyn Tree>, command: &Command) -> Result<(), TreeFault>
-    requires { WhereKnown (live tree.old) (λ m. CanChange command.now.old command.now.new (at m) command.now.node) }
+    requires { WhereKnown (live tree.old)
+        (λ m. CanChange command.now.old command.now.new (at m) command.now.node) }
     ensures counts { IsChanging result (live tree.old) (live tree.new) }
-    ensures contents { IfTreeKnown (live tree.old) (live tree.new) (λ m n. Puts ⊤ command.now.node command.now.new result m n) }
+    ensures contents { IfTreeKnown (live tree.old) (live tree.new)
+        (λ m n. Puts ⊤ command.now.node command.now.new result m n) }
 {
     let path = command.path();
     match command.new_value() {

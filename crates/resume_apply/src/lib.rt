@@ -7,8 +7,6 @@ mod faults;
 mod finishing;
 pub mod laws;
 mod preparing;
-#[cfg(test)]
-mod tests;
 
 pub use self::faults::ApplyFault;
 pub use self::finishing::finish;

@@ -21,7 +21,8 @@ use tree_port::{Tree, TreeFault};
 /// The work that is left at a command's node; `None` where the node holds none of the values of ready.
 fn work_of(tree: &mut Box<dyn Tree>, command: &Command) -> Result<Option<u64>, TreeFault>
     ensures reading { IsReading result (live tree.old) (live tree.new) }
-    ensures answer { WhereKnown (live tree.old) (λ m. Answers ⊤ (IsWorkAt command.now (at m command.now.node)) result) }
+    ensures answer { WhereKnown (live tree.old)
+        (λ m. Answers ⊤ (IsWorkAt command.now (at m command.now.node)) result) }
     ensures few { IfOk result IsFew }
 {
     let path = command.path();
@@ -96,7 +97,8 @@ fn first_unnamed(set: &CanonSet, paths: Vec<Path>) -> Option<Path>
 /// Whether the node is a directory.
 fn is_dir_at(tree: &mut Box<dyn Tree>, path: &Path) -> Result<bool, TreeFault>
     ensures reading { IsReading result (live tree.old) (live tree.new) }
-    ensures answer { WhereKnown (live tree.old) (λ m. Answers ⊤ (λ b. b ≡ is_dir (at m path.now)) result) }
+    ensures answer { WhereKnown (live tree.old)
+        (λ m. Answers ⊤ (λ b. b ≡ is_dir (at m path.now)) result) }
 {
     match tree.kind(path) {
         Ok(Kind::Dir) => Ok(true),
@@ -125,7 +127,8 @@ fn is_left_alone(
     requires fitting { IsFitting set.now }
     requires named { command_at set.now command.now.node ≡ Some command.now }
     ensures asking { IsAsking result (live tree.old) (live tree.new) }
-    ensures answer { WhereKnown (live tree.old) (λ m. IfOk result (λ b. IsTrue b ↔ IsBlocked set.now (at m) command.now.node)) }
+    ensures answer { WhereKnown (live tree.old)
+        (λ m. IfOk result (λ b. IsTrue b ↔ IsBlocked set.now (at m) command.now.node)) }
     ensures refusal { IsOfTree result }
 {
     if command.new_value().is_empty() {
@@ -151,7 +154,8 @@ fn first_left_under(
     requires fitting { IsFitting set.now }
     requires named { command_at set.now command.now.node ≡ Some command.now }
     ensures asking { IsAsking result (live tree.old) (live tree.new) }
-    ensures answer { WhereKnown (live tree.old) (λ m. IfOk result (FindsBelow set.now (at m) command.now)) }
+    ensures answer { WhereKnown (live tree.old)
+        (λ m. IfOk result (FindsBelow set.now (at m) command.now)) }
     ensures refusal { IsOfTree result }
 {
     if command.new_value().is_dir() {
@@ -175,7 +179,8 @@ fn look_at(
     requires fitting { IsFitting set.now }
     requires named { command_at set.now command.now.node ≡ Some command.now }
     ensures asking { IsAsking result (live tree.old) (live tree.new) }
-    ensures answer { WhereKnown (live tree.old) (λ m. OnOk result (LooksAt set.now (at m) command.now first.old first.new)) }
+    ensures answer { WhereKnown (live tree.old)
+        (λ m. OnOk result (LooksAt set.now (at m) command.now first.old first.new)) }
     ensures refusal { IsOfTree result }
 {
     if is_left_alone(alloc, tree, set, command)? {
@@ -213,7 +218,11 @@ fn first_blocked(
 /// begin or go on. Where there is none, `Blocked` names the first node, in path order, that would be left without a
 /// directory above it. A call of the tree that is refused comes before both. Of the tree only the set's nodes are looked
 /// at, their parents, and the children of those that must be emptied.
+///
+/// There is no condition. The clause that says so tells callers in other crates that the tree in the box is the one that
+/// they put there ("Boxes of trees" in `docs/DECISIONS.md`).
 pub fn prepare(alloc: Global, tree: &mut Box<dyn Tree>, set: &CanonSet) -> Result<u64, ApplyFault>
+    requires { ⊤ }
     ensures asking { IsAsking result (live tree.old) (live tree.new) }
     ensures answer { WhereKnown (live tree.old) (λ m. Finds set.now (at m) result) }
 {

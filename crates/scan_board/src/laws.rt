@@ -7,7 +7,8 @@ ghost use Rattle.scan_board.specs.Settling.{IsExact, IsBareRight, IsMade};
 
 /// On a settled board, what is below a bare node is not open however deep.
 pub fn bare_nodes_are_closed_below()
-    ensures { (s : State) → IsSound s.tables → IsExact s → IsBareRight s → IsMade s.tables → IsDeep s }
+    ensures { (s : State) → IsSound s.tables → IsExact s → IsBareRight s →
+        IsMade s.tables → IsDeep s }
 {}
 
 /// The credit of a board is at most 18 for each of its commands.

@@ -97,10 +97,12 @@ fn block_one<L: Ledger>(
     requires command_in { command < command_count board.old.tables }
     requires of_node { node_of board.old.tables command ≡ node }
     ensures next { result ≡ next_of board.old.tables command }
-    ensures same { board.new ≡ record board.old { marks = board.new.marks; dirs = board.new.dirs } }
+    ensures same { board.new ≡ record board.old
+        { marks = board.new.marks; dirs = board.new.dirs } }
     ensures board { IsBoard board.new }
     ensures here { mark_of board.new command ≡ blocked_by board.old node rule command }
-    ensures others { (i : ℕ) → (i ≡ command → ⊥) → mark_of board.new i ≡ mark_of board.old i }
+    ensures others { (i : ℕ) → (i ≡ command → ⊥) →
+        mark_of board.new i ≡ mark_of board.old i }
     ensures dirs { IsDirsRight board.old → IsDirsRight board.new }
     ensures steps { steps.new + 8 * opens board.new ≤ steps.old + 8 * opens board.old + 1 }
 {
@@ -124,7 +126,8 @@ fn block_row<L: Ledger>(
     requires board { IsBoard board.old }
     requires node_in { node < node_count board.old.tables }
     requires first { first ≡ first_of board.old.tables node }
-    ensures same { board.new ≡ record board.old { marks = board.new.marks; dirs = board.new.dirs } }
+    ensures same { board.new ≡ record board.old
+        { marks = board.new.marks; dirs = board.new.dirs } }
     ensures board { IsBoard board.new }
     ensures marks { (i : ℕ) → i < command_count board.old.tables →
         mark_of board.new i ≡ blocked_by board.old node rule i }
@@ -152,7 +155,8 @@ fn shut_one<L: Ledger>(board: &mut Board<L>, node: usize, steps: &mut Steps<L>) 
     ensures board { IsBoard board.new }
     ensures grows { Grows board.old board.new }
     ensures here { is_shut board.new node ≡ true }
-    ensures others { (n : ℕ) → (n ≡ node → ⊥) → is_shut board.new n ≡ is_shut board.old n }
+    ensures others { (n : ℕ) → (n ≡ node → ⊥) →
+        is_shut board.new n ≡ is_shut board.old n }
     ensures row { is_shut board.old node ≡ false → (i : ℕ) → i < command_count board.old.tables →
         node_of board.old.tables i ≡ node → (leaves_of board.old.tables i ≡ Kind.Dir → ⊥) →
         is_open board.new i ≡ false }
@@ -302,7 +306,8 @@ fn cover<L: Ledger>(board: &mut Board<L>, node: usize, steps: &mut Steps<L>)
     ensures grows { Grows board.old board.new }
     ensures within { IsWithin board.new.pile (node_count board.old.tables) }
     ensures bare_here { is_bare board.new node ≡ true }
-    ensures bare_others { (n : ℕ) → (n ≡ node → ⊥) → is_bare board.new n ≡ is_bare board.old n }
+    ensures bare_others { (n : ℕ) → (n ≡ node → ⊥) →
+        is_bare board.new n ≡ is_bare board.old n }
     ensures closed { is_bare board.old node ≡ false → IsClosedBelow board.new node }
     ensures piled { is_bare board.old node ≡ false → IsPiled board.new node }
     ensures why { OnlyBelow board.old board.new node }

@@ -10,9 +10,6 @@ use std::fs;
 use std::io::{Read, Write};
 use std::marker::Model;
 
-#[cfg(test)]
-mod tests;
-
 /// The files of a runtime. They are seen as their count of faults, which rises at each error, up to `u64::MAX`.
 pub struct HostFiles<R: std::rt::Files + Clone + Drop> {
     rt: R,

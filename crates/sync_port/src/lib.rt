@@ -11,8 +11,6 @@ mod mem_files;
 mod mem_sink;
 mod ports;
 mod sending;
-#[cfg(test)]
-mod tests;
 mod whole;
 
 pub use self::faults::{PortFault, SinkFailed, WholeFault};

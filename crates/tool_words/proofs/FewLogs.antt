@@ -4,15 +4,17 @@ use Rattle.std.specs.Prelude.{decimal, option_and_then}
 use Rattle.std.specs.Option.{option_map}
 use Rattle.std.specs.Str.{bytes_eq}
 use Rattle.std.specs.Str.Parse.{digits_value}
+use Rattle.std.proofs.lemmas.Bool.{leb-true}
 use Rattle.std.proofs.lemmas.Bool.Decides.{nat_tests}
 use Rattle.tool_words.specs.Commands.{commands, verb_in}
-use Rattle.tool_words.specs.Jobs.{command_job, is_help, job_of, operands_job, transition_of}
+use Rattle.tool_words.specs.Jobs.{command_job, is_help, job_of, operands_job, transition_of, drill_of}
+use Rattle.tool_words.specs.Numbers.{number_between}
 use Rattle.tool_words.specs.Logs.{Parts, first_and_logs, first_logs, is_log_count, logs_of, parts_of, prefs_logs}
-use Rattle.tool_words.specs.Words.{Operand, Text, numbered, one_operand, plain_of, two_operands}
+use Rattle.tool_words.specs.Words.{Operand, Text, numbered, one_operand, plain_of, two_operands, three_operands, all_three_of}
 use Rattle.tool_words.specs.declared.commands.Verb.{Verb}
 use Rattle.tool_words.specs.declared.commands.Verb.TheVariants as verb
 use Rattle.tool_words.specs.declared.job.Job.{Job}
-use Rattle.tool_words.specs.declared.job.Job.TheVariants.{Help, Replay, Canon, Merge, Transition, Steer}
+use Rattle.tool_words.specs.declared.job.Job.TheVariants.{Help, Replay, Canon, Conflicts, Merge, Transition, Steer, Seal, Apply, Drill}
 use Rattle.tool_words.specs.LogCounts.{HasFewLogs}
 
 -- each job that there is has few logs
@@ -20,8 +22,21 @@ abbrev AllFew : Option Job → Type 0
 AllFew None = Unit {0}
 AllFew (Some job) = HasFewLogs job
 
+-- each number that there is lies between these
+abbrev AllBetween : ℕ → ℕ → Option ℕ → Type 0
+AllBetween low high None = Unit {0}
+AllBetween low high (Some n) = (low ≤ n) × (n ≤ high)
+
 few_count : (n : ℕ) → is_log_count n ≡ true → n ≤ 64
 few_count n e = grind (arith, nat_tests)
+
+few_only : (plain : Option (List Operand)) → AllFew (option_map Conflicts (option_and_then logs_of plain))
+few_only None = tt
+few_only (Some logs) = here (is_log_count (length logs)) (few_count (length logs))
+  where
+    here : (b : Bool) → (b ≡ true → length logs ≤ 64) → AllFew (option_map Conflicts (if b then Some logs else None))
+    here true h = h refl
+    here false h = tt
 
 few_parts : (parts : Option Parts) → AllFew (option_map (λ (p : Parts). Merge p.0 p.1) (option_and_then (λ parts. option_map (λ logs. (parts.0, logs)) (logs_of parts.1)) parts))
 few_parts None = tt
@@ -59,20 +74,51 @@ few_number (Some (prefs, first ∷ rest)) = here (is_log_count (length rest)) (f
         one_of (h refl) n (bytes_eq first.text (decimal n) && (nat_le 1 n && nat_le n (length rest))) (between n (bytes_eq first.text (decimal n)))
     here false h = tt
 
-few_pair : (o : Option (Operand × Operand)) → AllFew (option_map (λ (pair : Operand × Operand). Replay pair.0 pair.1) o)
-few_pair None = tt
-few_pair (Some pair) = tt
+-- of a job that has no logs by number
+few_pair : (job : Operand → Operand → Job) → ((a b : Operand) → HasFewLogs (job a b)) → (o : Option (Operand × Operand))
+    → AllFew (option_map (λ (pair : Operand × Operand). job pair.0 pair.1) o)
+few_pair job few None = tt
+few_pair job few (Some pair) = few pair.0 pair.1
+
+-- a number between two bounds is between them
+between_bounds : (low high : ℕ) (text : Text) → AllBetween low high (number_between low high text)
+between_bounds low high text =
+    let n = digits_value 10 text in
+    here n (bytes_eq text (decimal n)) (nat_le low n) refl (nat_le n high) refl
+  where
+    here : (n : ℕ) (a b : Bool) → nat_le low n ≡ b → (c : Bool) → nat_le n high ≡ c → AllBetween low high (if a && (b && c) then Some n else None)
+    here n true true eb true ec = (leb-true low n eb, leb-true n high ec)
+    here n true true eb false ec = tt
+    here n true false eb c ec = tt
+    here n false b eb c ec = tt
+
+few_drill : (o : Option (Operand × Operand × Operand)) → AllFew (option_and_then drill_of o)
+few_drill None = tt
+few_drill (Some (seed, logs, steps)) =
+    here (number_between 0 2147483647 seed.text) (number_between 1 64 logs.text) (number_between 0 16384 steps.text)
+    (between_bounds 0 2147483647 seed.text) (between_bounds 1 64 logs.text) (between_bounds 0 16384 steps.text)
+  where
+    here : (s l k : Option ℕ) → AllBetween 0 2147483647 s → AllBetween 1 64 l → AllBetween 0 16384 k
+        → AllFew (option_map (λ (numbers : ℕ × ℕ × ℕ). Drill numbers.0 numbers.1 numbers.2) (all_three_of s l k))
+    here (Some s) (Some l) (Some k) a b c = (a.1, (omega (arith, b.0), b.1), c.1)
+    here None l k a b c = tt
+    here (Some s) None k a b c = tt
+    here (Some s) (Some l) None a b c = tt
 
 few_one : (o : Option Operand) → AllFew (option_map Canon o)
 few_one None = tt
 few_one (Some log) = tt
 
 few_verb : (v : Verb) (operands : List Operand) → AllFew (operands_job v operands)
-few_verb verb.Replay operands = few_pair (two_operands operands)
+few_verb verb.Replay operands = few_pair Replay (λ a b. tt) (two_operands operands)
 few_verb verb.Canon operands = few_one (one_operand operands)
+few_verb verb.Conflicts operands = few_only (plain_of operands)
 few_verb verb.Merge operands = few_parts (parts_of operands)
 few_verb verb.Transition operands = few_number (parts_of operands)
 few_verb verb.Steer operands = few_first (plain_of operands)
+few_verb verb.Seal operands = few_pair Seal (λ a b. tt) (two_operands operands)
+few_verb verb.Drill operands = few_drill (three_operands operands)
+few_verb verb.Apply operands = few_pair Apply (λ a b. tt) (two_operands operands)
 
 few_found : (v : Option Verb) (operands : List Operand) → AllFew (option_and_then (λ w. operands_job w operands) v)
 few_found None operands = tt

@@ -3,15 +3,16 @@ use Rattle.std.proofs.Common.{◌≡◌, ◌∙◌, Bool, true, false, refl, sym
 use Rattle.std.specs.Option.{option_to_list}
 use Rattle.std.specs.List.{list_all}
 use Rattle.clap.proofs.WalkLemmas.{both}
-use Rattle.tool_words.specs.Words.{Text, Operand, operand_at, numbered, is_plain, plain_of, only_of, pair_of}
+use Rattle.tool_words.specs.Words.{Text, Operand, operand_at, numbered, is_plain, plain_of, only_of, pair_of, two_operands, three_operands, all_three_of}
 use Rattle.tool_words.specs.Logs.{Parts, is_log_count, logs_of, first_and_logs, parts_of}
 use Rattle.tool_words.specs.Commands.{commands, verb_in}
-use Rattle.tool_words.specs.Jobs.{is_help, job_of, command_job, operands_job, transition_of}
+use Rattle.tool_words.specs.Jobs.{is_help, job_of, command_job, operands_job, transition_of, drill_of}
 use Rattle.tool_words.specs.Numbers.{number_between}
-use Rattle.tool_words.specs.Operands.{AreInPlace, operands_in, operand_text, text_at, word_at}
+use Rattle.tool_words.specs.Operands.{AreInPlace, job_operands, operands_in, operand_text, text_at, word_at}
 use Rattle.tool_words.specs.declared.commands.Verb.{Verb}
 use Rattle.tool_words.specs.declared.commands.Verb.TheVariants as verb
-use Rattle.tool_words.specs.declared.job.Job.TheVariants.{Help, Replay, Canon, Merge, Transition, Steer}
+use Rattle.tool_words.specs.declared.job.Job.{Job}
+use Rattle.tool_words.specs.declared.job.Job.TheVariants.{Help, Replay, Canon, Conflicts, Merge, Transition, Steer, Seal, Apply, Drill}
 use Rattle.tool_words.proofs.Places.{numbered_plain}
 use Rattle.tool_words.proofs.Walks.{is_not}
 use Rattle.tool_words.proofs.PrefsOption.{IsPlainFile, Opening, Parted, equals, parted, placed, plain, skipped, spelled, word}
@@ -85,15 +86,18 @@ file_in_place name (word file) rest words operands is h after = (ap (λ w. text_
 
 -- ---- each command
 
-replay_in_place : (name : Text) (words : List Text) → AreInPlace (name ∷ words) (operands_in (operands_job verb.Replay (numbered 1 words)))
-replay_in_place name words =
-    of_plain words (λ them. AreInPlace (name ∷ words) (operands_in (option_map (λ pair. Replay pair.0 pair.1) (option_and_then pair_of them)))) (pair words) tt
+-- a job of two operands, which names both
+two_in_place : (job : Operand → Operand → Job) → ((a b : Operand) → job_operands (job a b) ≡ a ∷ b ∷ []) → (name : Text) (words : List Text)
+    → AreInPlace (name ∷ words) (operands_in (option_map (λ pair. job pair.0 pair.1) (two_operands (numbered 1 words))))
+two_in_place job is name words =
+    of_plain words (λ them. AreInPlace (name ∷ words) (operands_in (option_map (λ pair. job pair.0 pair.1) (option_and_then pair_of them)))) (pair words) tt
   where
     pair : (words : List Text) → list_all is_plain words ≡ true
-        → AreInPlace (name ∷ words) (operands_in (option_map (λ pair. Replay pair.0 pair.1) (pair_of (numbered 1 words))))
+        → AreInPlace (name ∷ words) (operands_in (option_map (λ pair. job pair.0 pair.1) (pair_of (numbered 1 words))))
     pair [] all = tt
     pair (a ∷ []) all = tt
-    pair (a ∷ b ∷ []) all = from_place (name ∷ a ∷ b ∷ []) 1 (a ∷ b ∷ []) refl all
+    pair (a ∷ b ∷ []) all =
+        subst (AreInPlace (name ∷ a ∷ b ∷ [])) (sym (is (operand_at 1 a) (operand_at 2 b))) (from_place (name ∷ a ∷ b ∷ []) 1 (a ∷ b ∷ []) refl all)
     pair (a ∷ b ∷ c ∷ rest) all = tt
 
 canon_in_place : (name : Text) (words : List Text) → AreInPlace (name ∷ words) (operands_in (operands_job verb.Canon (numbered 1 words)))
@@ -104,6 +108,12 @@ canon_in_place name words =
     only [] all = tt
     only (a ∷ []) all = from_place (name ∷ a ∷ []) 1 (a ∷ []) refl all
     only (a ∷ b ∷ rest) all = tt
+
+conflicts_in_place : (name : Text) (words : List Text) → AreInPlace (name ∷ words) (operands_in (operands_job verb.Conflicts (numbered 1 words)))
+conflicts_in_place name words =
+    of_plain words (λ them. AreInPlace (name ∷ words) (operands_in (option_map Conflicts (option_and_then logs_of them))))
+    (λ all. of_logs (numbered 1 words) (λ logs. AreInPlace (name ∷ words) (operands_in (option_map Conflicts logs)))
+    (from_place (name ∷ words) 1 words refl all) tt) tt
 
 merge_in_place : (name : Text) (words : List Text) → AreInPlace (name ∷ words) (operands_in (operands_job verb.Merge (numbered 1 words)))
 merge_in_place name words =
@@ -146,14 +156,28 @@ steer_in_place name words =
         of_logs (numbered 2 rest) (λ logs. AreInPlace (name ∷ a ∷ rest) (operands_in (option_map (λ (pair : Operand × List Operand). Steer pair.0 pair.1) (option_map (λ logs. (operand_at 1 a, logs)) logs))))
         (from_place (name ∷ a ∷ rest) 1 (a ∷ rest) refl all) tt
 
+-- a drill names no file
+drill_in_place : (words : List Text) (triple : Option (Operand × Operand × Operand)) → AreInPlace words (operands_in (option_and_then drill_of triple))
+drill_in_place words None = tt
+drill_in_place words (Some (seed, logs, steps)) =
+    by (all_three_of (number_between 0 2147483647 seed.text) (number_between 1 64 logs.text) (number_between 0 16384 steps.text))
+  where
+    by : (numbers : Option (ℕ × ℕ × ℕ)) → AreInPlace words (operands_in (option_map (λ (numbers : ℕ × ℕ × ℕ). Drill numbers.0 numbers.1 numbers.2) numbers))
+    by None = tt
+    by (Some numbers) = tt
+
 in_place : (verb : Option Verb) (name : Text) (words : List Text)
     → AreInPlace (name ∷ words) (operands_in (option_and_then (λ verb. operands_job verb (numbered 1 words)) verb))
 in_place None name words = tt
-in_place (Some verb.Replay) name words = replay_in_place name words
+in_place (Some verb.Replay) name words = two_in_place Replay (λ a b. refl) name words
 in_place (Some verb.Canon) name words = canon_in_place name words
+in_place (Some verb.Conflicts) name words = conflicts_in_place name words
 in_place (Some verb.Merge) name words = merge_in_place name words
 in_place (Some verb.Transition) name words = transition_in_place name words
 in_place (Some verb.Steer) name words = steer_in_place name words
+in_place (Some verb.Seal) name words = two_in_place Seal (λ a b. refl) name words
+in_place (Some verb.Drill) name words = drill_in_place (name ∷ words) (three_operands (numbered 1 words))
+in_place (Some verb.Apply) name words = two_in_place Apply (λ a b. refl) name words
 
 command_in_place : (words : List Text) → AreInPlace words (operands_in (command_job (numbered 0 words)))
 command_in_place [] = tt

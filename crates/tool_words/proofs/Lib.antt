@@ -6,10 +6,12 @@ pub mod LogOperands
 pub mod FirstAndLogs
 pub mod OneOperand
 pub mod TwoOperands
+pub mod ThreeOperands
 pub mod NumberTexts
 pub mod Places
 pub mod InPlace
 pub mod Table
+pub mod Folders
 pub mod Numbered
 pub mod FewLogs
 pub mod CallerLemmas

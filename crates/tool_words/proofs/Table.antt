@@ -1,13 +1,10 @@
 -- The table of commands, entry by entry.
 use Rattle.std.proofs.Common.{◌≡◌, ◌∙◌, ◌<◌, ◌++◌, ◌+◌, refl, sym, ap, List, ℕ, suc, [], ◌∷◌, Option, Some, None, cond, length, map, drop, get_or, drop-cons, arith}
 use Rattle.std.specs.Str.{bytes_eq}
-use Rattle.tool_words.specs.Words.{Text, places_of}
+use Rattle.tool_words.specs.Words.{Text}
 use Rattle.tool_words.specs.Commands.{shape_of, verb_in}
 use Rattle.tool_words.specs.Help.{help_line, help_lines}
-use Rattle.tool_words.specs.Trees.{asked_folders, folder_places}
-use Rattle.tool_words.specs.Jobs.{job_of}
 use Rattle.tool_words.specs.declared.commands.CommandShape.{CommandShape}
-use Rattle.tool_words.specs.declared.job.Job.{Job}
 
 -- the entry at hand, and those that follow it
 entry : (shapes : List CommandShape) (at : ℕ) (shape : CommandShape) → at < length shapes → shape ≡ get_or shapes at shape
@@ -26,11 +23,3 @@ verb_here shapes at shape name within is = ap (λ rest. verb_in (map shape_of re
 pub lines_here : (shapes : List CommandShape) (at : ℕ) (shape : CommandShape) → at < length shapes → shape ≡ get_or shapes at shape
     → help_lines (map shape_of (drop at shapes)) ≡ help_line (shape_of shape) ++ help_lines (map shape_of (drop (at + 1) shapes))
 lines_here shapes at shape within is = ap (λ rest. help_lines (map shape_of rest)) (entry shapes at shape within is)
-
--- no job of a command that is built names a folder
-no_folders : (job : Option Job) → asked_folders job ≡ []
-no_folders None = refl
-no_folders (Some job) = refl
-
-pub no_places : (words : List Text) → folder_places words ≡ []
-no_places words = ap places_of (no_folders (job_of words))

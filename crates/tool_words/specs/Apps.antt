@@ -17,6 +17,10 @@ one_operand_app name = with_rule (new_app name) (operand (codes "first"))
 abbrev pub two_operand_app : Text → App
 two_operand_app name = with_rule (one_operand_app name) (operand (codes "second"))
 
+-- NAME FIRST SECOND THIRD
+abbrev pub three_operand_app : Text → App
+three_operand_app name = with_rule (two_operand_app name) (operand (codes "third"))
+
 -- operands, of which there must be one
 abbrev pub operands : Text → Rule
 operands id = record (new_rule id) { required = true; action = Some Append }

@@ -4,7 +4,7 @@ use Rattle.std.specs.Str.{bytes_eq}
 use Rattle.tool_words.specs.Words.{Text}
 use Rattle.tool_words.specs.declared.commands.CommandShape.{CommandShape}
 use Rattle.tool_words.specs.declared.commands.Verb.{Verb}
-use Rattle.tool_words.specs.declared.commands.Verb.TheVariants.{Replay, Canon, Merge, Transition, Steer}
+use Rattle.tool_words.specs.declared.commands.Verb.TheVariants.{Replay, Canon, Conflicts, Merge, Transition, Steer, Seal, Apply, Drill}
 
 -- what a command does, its name, and its operands as the help shows them
 pub record Shape : Type 0 where
@@ -21,9 +21,13 @@ abbrev pub commands : List Shape
 commands =
     record { verb = Replay; name = codes "replay"; operands = codes "SNAP LOG" }
     ∷ record { verb = Canon; name = codes "canon"; operands = codes "LOG" }
+    ∷ record { verb = Conflicts; name = codes "conflicts"; operands = codes "LOG..." }
     ∷ record { verb = Merge; name = codes "merge"; operands = codes "[--prefs FILE] LOG..." }
     ∷ record { verb = Transition; name = codes "transition"; operands = codes "[--prefs FILE] N LOG..." }
     ∷ record { verb = Steer; name = codes "steer"; operands = codes "SET LOG..." }
+    ∷ record { verb = Seal; name = codes "seal"; operands = codes "FOLDER LOG" }
+    ∷ record { verb = Apply; name = codes "apply"; operands = codes "FOLDER SET" }
+    ∷ record { verb = Drill; name = codes "drill"; operands = codes "SEED LOGS STEPS" }
     ∷ []
 
 -- what the first of the commands with this name does

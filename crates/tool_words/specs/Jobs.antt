@@ -1,14 +1,14 @@
 -- Which words are which job.
 use Rattle.std.specs.Prelude.{List, Bool, false, length, Option, Some, None, codes, ◌∷◌, [], ◌||◌, if◌then◌else◌, option_map, option_and_then}
 use Rattle.std.specs.Str.{bytes_eq}
-use Rattle.tool_words.specs.Words.{Text, Operand, numbered, one_operand, two_operands}
-use Rattle.tool_words.specs.Logs.{prefs_logs, first_logs, prefs_first_logs}
+use Rattle.tool_words.specs.Words.{Text, Operand, numbered, one_operand, two_operands, three_operands, all_three_of}
+use Rattle.tool_words.specs.Logs.{only_logs, prefs_logs, first_logs, prefs_first_logs}
 use Rattle.tool_words.specs.Numbers.{number_between}
 use Rattle.tool_words.specs.Commands.{commands, verb_in}
 use Rattle.tool_words.specs.declared.commands.Verb.{Verb}
 use Rattle.tool_words.specs.declared.commands.Verb.TheVariants as verb
 use Rattle.tool_words.specs.declared.job.Job.{Job}
-use Rattle.tool_words.specs.declared.job.Job.TheVariants.{Help, Replay, Canon, Merge, Transition, Steer}
+use Rattle.tool_words.specs.declared.job.Job.TheVariants.{Help, Replay, Canon, Conflicts, Merge, Transition, Steer, Seal, Apply, Drill}
 
 -- the only word asks for the help
 abbrev pub is_help : List Text → Bool
@@ -19,13 +19,23 @@ is_help _ = false
 abbrev pub transition_of : Option Operand × Operand × List Operand → Option Job
 transition_of (prefs, number, logs) = option_map (λ n. Transition n prefs logs) (number_between 1 (length logs) number.text)
 
+-- the numbers of a drill lie within its limits
+abbrev pub drill_of : Operand × Operand × Operand → Option Job
+drill_of (seed, logs, steps) =
+    option_map (λ numbers. Drill numbers.0 numbers.1 numbers.2)
+    (all_three_of (number_between 0 2147483647 seed.text) (number_between 1 64 logs.text) (number_between 0 16384 steps.text))
+
 -- the job of a command's operands, no more and no fewer
 abbrev pub operands_job : Verb → List Operand → Option Job
 operands_job verb.Replay operands = option_map (λ pair. Replay pair.0 pair.1) (two_operands operands)
 operands_job verb.Canon operands = option_map Canon (one_operand operands)
+operands_job verb.Conflicts operands = option_map Conflicts (only_logs operands)
 operands_job verb.Merge operands = option_map (λ parts. Merge parts.0 parts.1) (prefs_logs operands)
 operands_job verb.Transition operands = option_and_then transition_of (prefs_first_logs operands)
 operands_job verb.Steer operands = option_map (λ pair. Steer pair.0 pair.1) (first_logs operands)
+operands_job verb.Seal operands = option_map (λ pair. Seal pair.0 pair.1) (two_operands operands)
+operands_job verb.Apply operands = option_map (λ pair. Apply pair.0 pair.1) (two_operands operands)
+operands_job verb.Drill operands = option_and_then drill_of (three_operands operands)
 
 -- the job of a command line whose first word is the command
 abbrev pub command_job : List Operand → Option Job

@@ -4,7 +4,7 @@ use Rattle.std.specs.List.{AllByRecursion}
 use Rattle.tool_words.specs.Words.{Text, Operand}
 use Rattle.tool_words.specs.Logs.{has_prefs_prefix}
 use Rattle.tool_words.specs.declared.job.Job.{Job}
-use Rattle.tool_words.specs.declared.job.Job.TheVariants.{Help, Replay, Canon, Merge, Transition, Steer}
+use Rattle.tool_words.specs.declared.job.Job.TheVariants.{Help, Replay, Canon, Conflicts, Merge, Transition, Steer, Seal, Apply, Drill}
 
 -- the word at a place, and the empty word where there is none
 abbrev pub word_at : List Text → ℕ → Text
@@ -25,9 +25,13 @@ abbrev pub job_operands : Job → List Operand
 job_operands Help = []
 job_operands (Replay snap log) = snap ∷ log ∷ []
 job_operands (Canon log) = log ∷ []
+job_operands (Conflicts logs) = logs
 job_operands (Merge prefs logs) = option_to_list prefs ++ logs
 job_operands (Transition number prefs logs) = option_to_list prefs ++ logs
 job_operands (Steer set logs) = set ∷ logs
+job_operands (Seal folder log) = folder ∷ log ∷ []
+job_operands (Apply folder set) = folder ∷ set ∷ []
+job_operands (Drill seed logs steps) = []
 
 -- the same, and none where there is no job
 abbrev pub operands_in : Option Job → List Operand

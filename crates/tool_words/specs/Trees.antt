@@ -1,11 +1,30 @@
 -- Which words of a job name folders.
-use Rattle.std.specs.Prelude.{List, ℕ, [], Option, Some, None}
-use Rattle.tool_words.specs.Words.{Text, Operand, places_of}
+use Rattle.std.specs.Prelude.{List, ℕ, Bool, true, false, ◌&&◌, ◌==◌, length, ◌∷◌, [], Option, Some, None}
+use Rattle.std.specs.List.{list_all}
+use Rattle.tool_words.specs.Words.{Text, Operand, is_plain, places_of}
+use Rattle.tool_words.specs.Commands.{commands, verb_in}
 use Rattle.tool_words.specs.Jobs.{job_of}
+use Rattle.tool_words.specs.declared.commands.Verb.{Verb}
+use Rattle.tool_words.specs.declared.commands.Verb.TheVariants as verb
 use Rattle.tool_words.specs.declared.job.Job.{Job}
+use Rattle.tool_words.specs.declared.job.Job.TheVariants.{Seal, Apply}
+
+-- a command's first operand names a folder
+abbrev pub takes_folder : Option Verb → Bool
+takes_folder (Some verb.Seal) = true
+takes_folder (Some verb.Apply) = true
+takes_folder _ = false
+
+-- a command that takes a folder, and two plain operands
+abbrev pub has_folder : List Text → Bool
+has_folder [] = false
+has_folder (name ∷ operands) =
+    (length operands == 2) && (takes_folder (verb_in commands name) && list_all is_plain operands)
 
 -- the operands of a job that name folders
 abbrev pub job_folders : Job → List Operand
+job_folders (Seal folder log) = folder ∷ []
+job_folders (Apply folder set) = folder ∷ []
 job_folders _ = []
 
 -- the same, and none where there is no job

@@ -62,6 +62,11 @@ abbrev pub pair_of : {A : Type 0} → List A → Option (A × A)
 pair_of (a ∷ b ∷ []) = Some (a, b)
 pair_of _ = None
 
+-- the three of a list of three
+abbrev pub triple_of : {A : Type 0} → List A → Option (A × A × A)
+triple_of (a ∷ b ∷ c ∷ []) = Some (a, b, c)
+triple_of _ = None
+
 -- the operand of a command that has one, and it plain
 abbrev pub one_operand : List Operand → Option Operand
 one_operand operands = option_and_then only_of (plain_of operands)
@@ -70,7 +75,16 @@ one_operand operands = option_and_then only_of (plain_of operands)
 abbrev pub two_operands : List Operand → Option (Operand × Operand)
 two_operands operands = option_and_then pair_of (plain_of operands)
 
+-- the operands of a command that has three, and each plain
+abbrev pub three_operands : List Operand → Option (Operand × Operand × Operand)
+three_operands operands = option_and_then triple_of (plain_of operands)
+
 -- both values, where both are there
 abbrev pub both_of : {A : Type 0} → Option A → Option A → Option (A × A)
 both_of (Some a) (Some b) = Some (a, b)
 both_of _ _ = None
+
+-- the three values, where each is there
+abbrev pub all_three_of : {A : Type 0} → Option A → Option A → Option A → Option (A × A × A)
+all_three_of (Some a) (Some b) (Some c) = Some (a, b, c)
+all_three_of _ _ _ = None

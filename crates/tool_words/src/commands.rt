@@ -14,9 +14,13 @@ use sync_path::NoMemory;
 pub(crate) enum Verb {
     Replay,
     Canon,
+    Conflicts,
     Merge,
     Transition,
     Steer,
+    Seal,
+    Apply,
+    Drill,
 }
 
 /// What a command does, its name, and its operands as the help shows them.
@@ -28,7 +32,7 @@ pub(crate) struct CommandShape {
 }
 
 /// The commands that are built, in the order of the help.
-pub(crate) const COMMANDS: [CommandShape; 5] = [
+pub(crate) const COMMANDS: [CommandShape; 9] = [
     CommandShape {
         verb: Verb::Replay,
         name: "replay",
@@ -38,6 +42,11 @@ pub(crate) const COMMANDS: [CommandShape; 5] = [
         verb: Verb::Canon,
         name: "canon",
         operands: "LOG",
+    },
+    CommandShape {
+        verb: Verb::Conflicts,
+        name: "conflicts",
+        operands: "LOG...",
     },
     CommandShape {
         verb: Verb::Merge,
@@ -53,6 +62,21 @@ pub(crate) const COMMANDS: [CommandShape; 5] = [
         verb: Verb::Steer,
         name: "steer",
         operands: "SET LOG...",
+    },
+    CommandShape {
+        verb: Verb::Seal,
+        name: "seal",
+        operands: "FOLDER LOG",
+    },
+    CommandShape {
+        verb: Verb::Apply,
+        name: "apply",
+        operands: "FOLDER SET",
+    },
+    CommandShape {
+        verb: Verb::Drill,
+        name: "drill",
+        operands: "SEED LOGS STEPS",
     },
 ];
 
@@ -78,7 +102,8 @@ pub(crate) fn verb_of(name: &str) -> Option<Verb>
 
 /// Appends a command's line of the help.
 fn add_line(text: &mut Vec<u8>, shape: &CommandShape) -> Result<(), AllocError>
-    ensures { IfOk result (λ _. text.new.items ≡ text.old.items ++ help_line (shape_of shape.now)) }
+    ensures { IfOk result (λ _. text.new.items ≡ text.old.items
+        ++ help_line (shape_of shape.now)) }
 {
     text.extend_from_slice(texts::INDENT.as_bytes())?;
     text.extend_from_slice(shape.name.as_bytes())?;
@@ -90,7 +115,8 @@ fn add_line(text: &mut Vec<u8>, shape: &CommandShape) -> Result<(), AllocError>
 /// Appends the lines of these commands.
 #[tactic(auto, using(crate::proofs::Table::lines_here))]
 fn add_lines(text: &mut Vec<u8>, shapes: &[CommandShape]) -> Result<(), AllocError>
-    ensures { IfOk result (λ _. text.new.items ≡ text.old.items ++ help_lines (map shape_of shapes.now)) }
+    ensures { IfOk result (λ _. text.new.items ≡ text.old.items
+        ++ help_lines (map shape_of shapes.now)) }
 {
     for shape in shapes {
         add_line(text, shape)?;

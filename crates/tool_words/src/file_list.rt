@@ -42,7 +42,8 @@ impl<'a> FileList<'a> {
     /// The text of an operand, counted from 0; it takes no memory.
     pub fn name(&self, at: usize) -> &str
         requires { at < length self.now }
-        ensures { option_map (λ operand. operand.text) (slice_get self.now at) ≡ Some result.now }
+        ensures { option_map (λ operand. operand.text) (slice_get self.now at)
+            ≡ Some result.now }
     {
         self.words[self.first + at].as_str()
     }
@@ -51,7 +52,8 @@ impl<'a> FileList<'a> {
     /// follow one another.
     pub fn place(&self, at: usize) -> usize
         requires { at < length self.now }
-        ensures operand { option_map (λ operand. operand.place) (slice_get self.now at) ≡ Some result }
+        ensures operand { option_map (λ operand. operand.place) (slice_get self.now at)
+            ≡ Some result }
         ensures follows { result ≡ first_place (places_of self.now) + at }
     {
         self.first + at

@@ -62,6 +62,10 @@ pub enum Job<'a> {
     Canon {
         log: Word<'a>,
     },
+    /// Print the clashes of the logs, and how many there are.
+    Conflicts {
+        logs: FileList<'a>,
+    },
     /// Print the first merger of the logs, under the rules of the file `prefs` or under none.
     Merge {
         prefs: Option<Word<'a>>,
@@ -79,6 +83,25 @@ pub enum Job<'a> {
     Steer {
         set: Word<'a>,
         logs: FileList<'a>,
+    },
+    /// Print the log that a stopped recording left in the file `log`, as far as the tree in
+    /// `folder` has it.
+    Seal {
+        folder: Word<'a>,
+        log: Word<'a>,
+    },
+    /// Lead the tree in `folder` to where the net set of the log in the file `set` leads it, and
+    /// print how many calls changed it.
+    Apply {
+        folder: Word<'a>,
+        set: Word<'a>,
+    },
+    /// Print the summary of `logs` logs, 1 to 64, that are made from the number `seed`, 0 to
+    /// 2147483647, in `steps` steps each, 0 to 16384.
+    Drill {
+        seed: u32,
+        logs: u32,
+        steps: u32,
     },
 }
 

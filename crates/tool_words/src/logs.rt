@@ -10,7 +10,7 @@ ghost use Rattle.clap.specs.Words.{app_of, first_value, found_of, matched_of, ra
 ghost use Rattle.tool_words.specs.declared.job.WordFault.TheVariants.{Refused};
 ghost use Rattle.tool_words.specs.Apps.{logs_app, first_logs_app};
 ghost use Rattle.tool_words.specs.Words.{texts_of, is_plain, numbered, operand_at, operands_of};
-ghost use Rattle.tool_words.specs.Logs.{is_log_count, parts_of, part_texts, file_and_texts, file_first_and_texts, first_logs, prefs_logs, prefs_first_logs};
+ghost use Rattle.tool_words.specs.Logs.{is_log_count, parts_of, part_texts, file_and_texts, file_first_and_texts, only_logs, first_logs, prefs_logs, prefs_first_logs};
 
 use crate::file_list::FileList;
 use crate::job::{Word, WordFault};
@@ -108,7 +108,8 @@ fn first_and_logs_matches<'a>(
     ensures ok { IfOk result (λ matches. option_map part_texts (parts_of (operands_of words.entry.now))
         ≡ file_first_and_texts (first_value (found_of matches) (codes "prefs")) (first_value (found_of matches) (codes "first"))
         (option_map raw_values (matched_of (found_of matches) (codes "logs")))) }
-    ensures refused { IsErrOf result Refused → prefs_first_logs (operands_of words.entry.now) ≡ None }
+    ensures refused { IsErrOf result Refused →
+        prefs_first_logs (operands_of words.entry.now) ≡ None }
 {
     let command = first_and_logs_command(alloc, name)?;
     let matches = command.try_get_matches_from(words)?;
@@ -129,7 +130,8 @@ fn have_operand_parts(words: &[String]) -> bool
 /// The file of the option as an operand, whose word is the one before the operands.
 fn file_before<'a>(file: Option<&'a str>, first: usize) -> Option<Word<'a>>
     requires { is_some file ≡ true → 1 ≤ first }
-    ensures { result ≡ option_map (operand_at (first - 1)) (option_map (λ text. text.now) file.entry) }
+    ensures { result ≡ option_map (operand_at (first - 1))
+        (option_map (λ text. text.now) file.entry) }
 {
     match file {
         Some(text) => Some(Word::new(text, first - 1)),
@@ -145,7 +147,8 @@ pub(crate) fn prefs_and_logs<'a>(
     name: &'a str,
     words: &'a [String],
 ) -> Result<(Option<Word<'a>>, FileList<'a>), WordFault>
-    ensures ok { IfOk result (λ found. prefs_logs (operands_of words.entry.now) ≡ Some (found.0, found.1)) }
+    ensures ok { IfOk result (λ found.
+        prefs_logs (operands_of words.entry.now) ≡ Some (found.0, found.1)) }
     ensures refused { IsErrOf result Refused → prefs_logs (operands_of words.entry.now) ≡ None }
 {
     if !have_operand_parts(words) {
@@ -172,8 +175,10 @@ pub(crate) fn prefs_first_and_logs<'a>(
     name: &'a str,
     words: &'a [String],
 ) -> Result<(Option<Word<'a>>, Word<'a>, FileList<'a>), WordFault>
-    ensures ok { IfOk result (λ found. prefs_first_logs (operands_of words.entry.now) ≡ Some (found.0, found.1, found.2)) }
-    ensures refused { IsErrOf result Refused → prefs_first_logs (operands_of words.entry.now) ≡ None }
+    ensures ok { IfOk result (λ found.
+        prefs_first_logs (operands_of words.entry.now) ≡ Some (found.0, found.1, found.2)) }
+    ensures refused { IsErrOf result Refused →
+        prefs_first_logs (operands_of words.entry.now) ≡ None }
 {
     if !have_operand_parts(words) {
         return Err(WordFault::Refused);
@@ -195,6 +200,24 @@ pub(crate) fn prefs_first_and_logs<'a>(
     ))
 }
 
+/// The logs of a command `NAME LOG...`; Refused where a word is not plain, or there are no logs or
+/// more than 64.
+#[tactic(auto, using(crate::proofs::Places::not_plain, crate::proofs::LogPlaces::plain_logs))]
+pub(crate) fn only_logs<'a>(
+    alloc: Global,
+    name: &'a str,
+    words: &'a [String],
+) -> Result<FileList<'a>, WordFault>
+    ensures ok { IfOk result (λ logs. only_logs (operands_of words.entry.now) ≡ Some logs) }
+    ensures refused { IsErrOf result Refused → only_logs (operands_of words.entry.now) ≡ None }
+{
+    if !are_operands_plain(words) {
+        return Err(WordFault::Refused);
+    }
+    let (_, logs) = prefs_and_logs(alloc, name, words)?;
+    Ok(logs)
+}
+
 /// The first operand and the logs of a command `NAME FIRST LOG...`; Refused where a word is not
 /// plain, or there are no logs or more than 64.
 #[tactic(auto, using(crate::proofs::Places::not_plain, crate::proofs::LogPlaces::plain_first_logs))]
@@ -203,7 +226,8 @@ pub(crate) fn first_and_logs<'a>(
     name: &'a str,
     words: &'a [String],
 ) -> Result<(Word<'a>, FileList<'a>), WordFault>
-    ensures ok { IfOk result (λ found. first_logs (operands_of words.entry.now) ≡ Some (found.0, found.1)) }
+    ensures ok { IfOk result (λ found.
+        first_logs (operands_of words.entry.now) ≡ Some (found.0, found.1)) }
     ensures refused { IsErrOf result Refused → first_logs (operands_of words.entry.now) ≡ None }
 {
     if !are_operands_plain(words) {

@@ -7,7 +7,8 @@ ghost use Rattle.tool_words.specs.Operands.{text_at};
 
 /// FILE of a word `--prefs=FILE`.
 pub(crate) fn file_in_word(word: &str) -> Option<&str>
-    ensures some { IfSome result (λ file. (has_prefs_prefix word.now ≡ true) × (file.now ≡ drop 8 word.now)) }
+    ensures some { IfSome result (λ file.
+        (has_prefs_prefix word.now ≡ true) × (file.now ≡ drop 8 word.now)) }
     ensures none { IfNone result (has_prefs_prefix word.now ≡ false) }
 {
     word.strip_prefix("--prefs=")

@@ -9,8 +9,8 @@ ghost use Rattle.std.specs.List.{list_all};
 ghost use Rattle.clap.specs.Words.{app_of, first_value, found_of, kind_of};
 ghost use Rattle.clap.specs.declared.error.kind.ErrorKind.TheVariants.{OutOfMemory};
 ghost use Rattle.tool_words.specs.declared.job.WordFault.TheVariants.{Refused};
-ghost use Rattle.tool_words.specs.Apps.{one_operand_app, two_operand_app};
-ghost use Rattle.tool_words.specs.Words.{texts_of, is_plain, operands_of, one_operand, two_operands, only_of, pair_of, both_of};
+ghost use Rattle.tool_words.specs.Apps.{one_operand_app, two_operand_app, three_operand_app};
+ghost use Rattle.tool_words.specs.Words.{texts_of, is_plain, operands_of, one_operand, two_operands, three_operands, only_of, pair_of, triple_of, both_of, all_three_of};
 
 use crate::job::{Word, WordFault};
 use clap::error::ErrorKind;
@@ -66,6 +66,19 @@ fn two_operands_command<'a>(alloc: Global, name: &'a str) -> Result<Command<'a>,
     Command::new(alloc, name).arg(first)?.arg(second)
 }
 
+/// The app of a command `NAME FIRST SECOND THIRD`.
+fn three_operands_command<'a>(alloc: Global, name: &'a str) -> Result<Command<'a>, AllocError>
+    ensures { IfOk result (λ command. app_of command ≡ three_operand_app name.entry.now) }
+{
+    let first = Arg::new(alloc, "first").required(true);
+    let second = Arg::new(alloc, "second").required(true);
+    let third = Arg::new(alloc, "third").required(true);
+    Command::new(alloc, name)
+        .arg(first)?
+        .arg(second)?
+        .arg(third)
+}
+
 impl From<Error> for WordFault {
     ghost from_gives = { λ error fault. fault ≡ Refused → (kind_of error ≡ OutOfMemory → ⊥) };
 
@@ -87,8 +100,10 @@ fn one_operand_matches<'a>(
     requires plain { list_all is_plain (drop 1 (texts_of words.now)) ≡ true }
     ensures ok { IfOk result (λ matches. only_of (drop 1 (texts_of words.entry.now))
         ≡ first_value (found_of matches) (codes "first")) }
-    ensures one { IfOk result (λ _. is_some (only_of (drop 1 (texts_of words.entry.now))) ≡ true) }
-    ensures refused { IsErrOf result Refused → only_of (drop 1 (texts_of words.entry.now)) ≡ None }
+    ensures one { IfOk result (λ _.
+        is_some (only_of (drop 1 (texts_of words.entry.now))) ≡ true) }
+    ensures refused { IsErrOf result Refused →
+        only_of (drop 1 (texts_of words.entry.now)) ≡ None }
 {
     let command = one_operand_command(alloc, name)?;
     let matches = command.try_get_matches_from(words)?;
@@ -104,10 +119,33 @@ fn two_operands_matches<'a>(
     requires plain { list_all is_plain (drop 1 (texts_of words.now)) ≡ true }
     ensures ok { IfOk result (λ matches. let found = found_of matches in pair_of (drop 1 (texts_of words.entry.now))
         ≡ both_of (first_value found (codes "first")) (first_value found (codes "second"))) }
-    ensures two { IfOk result (λ _. is_some (pair_of (drop 1 (texts_of words.entry.now))) ≡ true) }
-    ensures refused { IsErrOf result Refused → pair_of (drop 1 (texts_of words.entry.now)) ≡ None }
+    ensures two { IfOk result (λ _.
+        is_some (pair_of (drop 1 (texts_of words.entry.now))) ≡ true) }
+    ensures refused { IsErrOf result Refused →
+        pair_of (drop 1 (texts_of words.entry.now)) ≡ None }
 {
     let command = two_operands_command(alloc, name)?;
+    let matches = command.try_get_matches_from(words)?;
+    Ok(matches)
+}
+
+/// Clap's matches of the words of a command `NAME FIRST SECOND THIRD`.
+fn three_operands_matches<'a>(
+    alloc: Global,
+    name: &'a str,
+    words: &'a [String],
+) -> Result<ArgMatches<'a>, WordFault>
+    requires plain { list_all is_plain (drop 1 (texts_of words.now)) ≡ true }
+    ensures ok { IfOk result (λ matches. let found = found_of matches in
+        triple_of (drop 1 (texts_of words.entry.now))
+        ≡ all_three_of (first_value found (codes "first")) (first_value found (codes "second"))
+        (first_value found (codes "third"))) }
+    ensures three { IfOk result (λ _.
+        is_some (triple_of (drop 1 (texts_of words.entry.now))) ≡ true) }
+    ensures refused { IsErrOf result Refused →
+        triple_of (drop 1 (texts_of words.entry.now)) ≡ None }
+{
+    let command = three_operands_command(alloc, name)?;
     let matches = command.try_get_matches_from(words)?;
     Ok(matches)
 }
@@ -121,7 +159,8 @@ pub(crate) fn one_operand<'a>(
     words: &'a [String],
 ) -> Result<Word<'a>, WordFault>
     ensures ok { IfOk result (λ first. one_operand (operands_of words.entry.now) ≡ Some first) }
-    ensures refused { IsErrOf result Refused → one_operand (operands_of words.entry.now) ≡ None }
+    ensures refused { IsErrOf result Refused →
+        one_operand (operands_of words.entry.now) ≡ None }
 {
     if !are_operands_plain(words) {
         return Err(WordFault::Refused);
@@ -141,8 +180,10 @@ pub(crate) fn two_operands<'a>(
     name: &'a str,
     words: &'a [String],
 ) -> Result<(Word<'a>, Word<'a>), WordFault>
-    ensures ok { IfOk result (λ pair. two_operands (operands_of words.entry.now) ≡ Some (pair.0, pair.1)) }
-    ensures refused { IsErrOf result Refused → two_operands (operands_of words.entry.now) ≡ None }
+    ensures ok { IfOk result (λ pair.
+        two_operands (operands_of words.entry.now) ≡ Some (pair.0, pair.1)) }
+    ensures refused { IsErrOf result Refused →
+        two_operands (operands_of words.entry.now) ≡ None }
 {
     if !are_operands_plain(words) {
         return Err(WordFault::Refused);
@@ -150,6 +191,37 @@ pub(crate) fn two_operands<'a>(
     let matches = two_operands_matches(alloc, name, words)?;
     match (matches.get_str("first"), matches.get_str("second")) {
         (Some(first), Some(second)) => Ok((Word::new(first, 1), Word::new(second, 2))),
+        _ => Err(WordFault::Refused),
+    }
+}
+
+/// The operands of a command `NAME FIRST SECOND THIRD`; Refused where one is not plain, or the
+/// words have fewer or more.
+#[tactic(auto, using(crate::proofs::Places::not_plain))]
+pub(crate) fn three_operands<'a>(
+    alloc: Global,
+    name: &'a str,
+    words: &'a [String],
+) -> Result<(Word<'a>, Word<'a>, Word<'a>), WordFault>
+    ensures ok { IfOk result (λ triple. three_operands (operands_of words.entry.now)
+        ≡ Some (triple.0, triple.1, triple.2)) }
+    ensures refused { IsErrOf result Refused →
+        three_operands (operands_of words.entry.now) ≡ None }
+{
+    if !are_operands_plain(words) {
+        return Err(WordFault::Refused);
+    }
+    let matches = three_operands_matches(alloc, name, words)?;
+    match (
+        matches.get_str("first"),
+        matches.get_str("second"),
+        matches.get_str("third"),
+    ) {
+        (Some(first), Some(second), Some(third)) => Ok((
+            Word::new(first, 1),
+            Word::new(second, 2),
+            Word::new(third, 3),
+        )),
         _ => Err(WordFault::Refused),
     }
 }

@@ -2,16 +2,23 @@
 
 ghost use Rattle.std.specs.Prelude.{◌≡◌, IfOk, IsErrOf, Some, None, option_and_then};
 ghost use Rattle.tool_words.specs.declared.job.WordFault.TheVariants.{Refused};
-ghost use Rattle.tool_words.specs.Words.{texts_of, operands_of};
-ghost use Rattle.tool_words.specs.Jobs.{job_of, operands_job, is_help, transition_of};
+ghost use Rattle.tool_words.specs.Words.{texts_of, operands_of, three_operands};
+ghost use Rattle.tool_words.specs.Jobs.{job_of, operands_job, is_help, transition_of, drill_of};
 ghost use Rattle.tool_words.specs.Logs.{prefs_first_logs};
 
 use crate::commands::{Verb, verb_of};
 use crate::job::{Job, WordFault};
-use crate::logs::{first_and_logs, prefs_and_logs, prefs_first_and_logs};
+use crate::logs::{first_and_logs, only_logs, prefs_and_logs, prefs_first_and_logs};
 use crate::numbers::read_number;
-use crate::operands::{one_operand, two_operands};
+use crate::operands::{one_operand, three_operands, two_operands};
 use std::alloc::Global;
+
+/// The greatest number that a drill begins with.
+const MAX_SEED: u32 = 2147483647;
+/// The most logs of a drill.
+const MAX_DRILL_LOGS: u32 = 64;
+/// The most steps of each log of a drill.
+const MAX_STEPS: u32 = 16384;
 
 /// Whether the words ask for the help alone.
 fn ask_help(words: &[String]) -> bool
@@ -46,6 +53,24 @@ fn read_transition<'a>(
     }
 }
 
+/// The job of the operands of `drill`, each a number within its limits.
+fn read_drill<'a>(alloc: Global, name: &'a str, words: &'a [String]) -> Result<Job<'a>, WordFault>
+    ensures ok { IfOk result (λ job. option_and_then drill_of
+        (three_operands (operands_of words.entry.now)) ≡ Some job) }
+    ensures refused { IsErrOf result Refused → option_and_then drill_of
+        (three_operands (operands_of words.entry.now)) ≡ None }
+{
+    let (seed, logs, steps) = three_operands(alloc, name, words)?;
+    match (
+        read_number(seed.as_str(), 0, MAX_SEED),
+        read_number(logs.as_str(), 1, MAX_DRILL_LOGS),
+        read_number(steps.as_str(), 0, MAX_STEPS),
+    ) {
+        (Some(seed), Some(logs), Some(steps)) => Ok(Job::Drill { seed, logs, steps }),
+        _ => Err(WordFault::Refused),
+    }
+}
+
 /// The job of a command's operands, which follow its name in the words.
 fn read_operands<'a>(
     alloc: Global,
@@ -53,8 +78,10 @@ fn read_operands<'a>(
     name: &'a str,
     words: &'a [String],
 ) -> Result<Job<'a>, WordFault>
-    ensures ok { IfOk result (λ job. operands_job verb (operands_of words.entry.now) ≡ Some job) }
-    ensures refused { IsErrOf result Refused → operands_job verb (operands_of words.entry.now) ≡ None }
+    ensures ok { IfOk result (λ job.
+        operands_job verb (operands_of words.entry.now) ≡ Some job) }
+    ensures refused { IsErrOf result Refused →
+        operands_job verb (operands_of words.entry.now) ≡ None }
 {
     match verb {
         Verb::Replay => {
@@ -65,6 +92,10 @@ fn read_operands<'a>(
             let log = one_operand(alloc, name, words)?;
             Ok(Job::Canon { log })
         }
+        Verb::Conflicts => {
+            let logs = only_logs(alloc, name, words)?;
+            Ok(Job::Conflicts { logs })
+        }
         Verb::Merge => {
             let (prefs, logs) = prefs_and_logs(alloc, name, words)?;
             Ok(Job::Merge { prefs, logs })
@@ -73,6 +104,15 @@ fn read_operands<'a>(
             let (set, logs) = first_and_logs(alloc, name, words)?;
             Ok(Job::Steer { set, logs })
         }
+        Verb::Seal => {
+            let (folder, log) = two_operands(alloc, name, words)?;
+            Ok(Job::Seal { folder, log })
+        }
+        Verb::Apply => {
+            let (folder, set) = two_operands(alloc, name, words)?;
+            Ok(Job::Apply { folder, set })
+        }
+        Verb::Drill => read_drill(alloc, name, words),
         Verb::Transition => read_transition(alloc, name, words),
     }
 }

@@ -56,6 +56,10 @@ fn job_text(alloc: Global, line: &str) -> Result<String, AllocError> {
             let log = word_text(alloc, log)?;
             format!(in alloc; "canon {log}")
         }
+        Ok(Job::Conflicts { logs }) => {
+            let logs = logs_text(alloc, logs)?;
+            format!(in alloc; "conflicts {logs}")
+        }
         Ok(Job::Merge { prefs, logs }) => {
             let (prefs, logs) = (prefs_text(alloc, prefs)?, logs_text(alloc, logs)?);
             format!(in alloc; "merge {prefs}{logs}")
@@ -74,12 +78,30 @@ fn job_text(alloc: Global, line: &str) -> Result<String, AllocError> {
             let (set, logs) = (word_text(alloc, set)?, logs_text(alloc, logs)?);
             format!(in alloc; "steer {set} {logs}")
         }
+        Ok(Job::Seal { folder, log }) => {
+            let (folder, log) = (word_text(alloc, folder)?, word_text(alloc, log)?);
+            format!(in alloc; "seal {folder} {log}")
+        }
+        Ok(Job::Apply { folder, set }) => {
+            let (folder, set) = (word_text(alloc, folder)?, word_text(alloc, set)?);
+            format!(in alloc; "apply {folder} {set}")
+        }
+        Ok(Job::Drill { seed, logs, steps }) => { format!(in alloc; "drill {seed} {logs} {steps}") }
         Err(WordFault::Refused) => String::from_str(alloc, "refused"),
         Err(WordFault::Memory) => String::from_str(alloc, "out of memory"),
     }
 }
 
-const CASES: [(&str, &str); 42] = [
+/// How many operands of a job name folders.
+fn count_folders(job: &str) -> usize {
+    if job.starts_with("seal ") || job.starts_with("apply ") {
+        1
+    } else {
+        0
+    }
+}
+
+const CASES: [(&str, &str); 57] = [
     ("help", "help"),
     ("--help", "help"),
     ("replay s l1", "replay 1=s 2=l1"),
@@ -87,6 +109,7 @@ const CASES: [(&str, &str); 42] = [
     ("canon ./-x", "canon 1=./-x"),
     ("canon /dev/stdin", "canon 1=/dev/stdin"),
     ("canon help", "canon 1=help"),
+    ("conflicts l1 l2", "conflicts 2: 1=l1 2=l2"),
     ("merge l1", "merge 1: 1=l1 1=l1"),
     ("merge l1 l2 l3", "merge 3: 1=l1 3=l3"),
     ("merge --prefs p l1 l2", "merge 2=p 2: 3=l1 4=l2"),
@@ -102,6 +125,10 @@ const CASES: [(&str, &str); 42] = [
         "transition --prefs=p 2 l1 l2",
         "transition 1=p 2 2: 3=l1 4=l2",
     ),
+    ("apply w m", "apply 1=w 2=m"),
+    ("drill 2147483647 64 16384", "drill 2147483647 64 16384"),
+    ("drill 0 1 0", "drill 0 1 0"),
+    ("seal w l", "seal 1=w 2=l"),
     ("", "refused"),
     ("frob", "refused"),
     ("replay s", "refused"),
@@ -120,12 +147,22 @@ const CASES: [(&str, &str); 42] = [
     ("merge l1 --prefs p", "refused"),
     ("merge --prefs", "refused"),
     ("conflicts", "refused"),
+    ("conflicts --prefs=p l1", "refused"),
     ("transition 3 l1 l2", "refused"),
     ("transition 0 l1 l2", "refused"),
     ("transition 01 l1 l2", "refused"),
     ("transition +1 l1 l2", "refused"),
     ("transition x l1 l2", "refused"),
     ("transition 1", "refused"),
+    ("apply w", "refused"),
+    ("apply w m x", "refused"),
+    ("apply w -m", "refused"),
+    ("drill 2147483648 1 0", "refused"),
+    ("drill 0 0 0", "refused"),
+    ("drill 0 1 16385", "refused"),
+    ("drill 0 01 0", "refused"),
+    ("drill 0 1 0 0", "refused"),
+    ("seal w", "refused"),
     ("steer m", "refused"),
     ("steer --prefs=p m l1", "refused"),
 ];
@@ -137,8 +174,9 @@ fn jobs_are_read(rt: HostRuntime) -> Result<(), AllocError> {
         let text = job_text(alloc, line)?;
         assert_eq!(rt; text.as_str(), job);
         let words = words_of(alloc, line)?;
-        assert_eq!(rt; trees_wanted(&words), 0);
-        assert_eq!(rt; first_tree_word(&words), 0);
+        let folders = count_folders(job);
+        assert_eq!(rt; trees_wanted(&words), folders);
+        assert_eq!(rt; first_tree_word(&words), folders);
     }
     assert!(rt; matches!(&read_words(alloc, &[]), Err(WordFault::Refused)));
     let mut words = words_of(alloc, "merge l1 --prefs=p")?;
@@ -159,6 +197,6 @@ fn jobs_are_read(rt: HostRuntime) -> Result<(), AllocError> {
 fn the_help_has_a_line_for_each_command(rt: HostRuntime) {
     let text = help(rt.alloc()).expect(&rt, "memory");
     let wanted =
-        "usage: treesync COMMAND WORDS\n  replay SNAP LOG\n  canon LOG\n  merge [--prefs FILE] LOG...\n  transition [--prefs FILE] N LOG...\n  steer SET LOG...\n";
+        "usage: treesync COMMAND WORDS\n  replay SNAP LOG\n  canon LOG\n  conflicts LOG...\n  merge [--prefs FILE] LOG...\n  transition [--prefs FILE] N LOG...\n  steer SET LOG...\n  seal FOLDER LOG\n  apply FOLDER SET\n  drill SEED LOGS STEPS\n";
     assert_eq!(rt; text.as_slice(), wanted.as_bytes());
 }

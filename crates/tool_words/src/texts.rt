@@ -1,5 +1,5 @@
-//! The fixed texts of the program: those of the help that are not in the table of commands, and the
-//! parts of the lines on the error stream.
+//! The fixed texts of the program: those of the help that are not in the table of commands, those
+//! of what commands print, and the parts of the lines on the error stream.
 //!
 //! A line on the error stream is put together from these parts, the words and numbers:
 //! `PROGRAM`, then a file's word and `COLON` or `LINE` with a number and `COLON` where the refusal
@@ -12,6 +12,17 @@ pub const USAGE: &str = "usage: treesync COMMAND WORDS\n";
 pub const INDENT: &str = "  ";
 /// Between a command's name and its operands in the help.
 pub const BLANK: &str = " ";
+
+/// Two commands of one node that differ; before its path and the numbers of their logs.
+pub const SAME_NODE: &str = "same ";
+/// A command leaves a node other than a directory and another fills a child of it; before the two
+/// paths and the numbers of their logs.
+pub const BELOW: &str = "below ";
+/// Before the number of clashes.
+pub const CLASHES: &str = "clashes ";
+
+/// Before the number of calls that changed a tree.
+pub const APPLIED: &str = "applied ";
 
 /// What each line begins with.
 pub const PROGRAM: &str = "treesync: ";
@@ -36,6 +47,14 @@ pub const LOGS: &str = "logs ";
 pub const AND: &str = " and ";
 /// No tree takes both logs; before the path where they disagree.
 pub const NO_COMMON_TREE: &str = "no common tree at ";
+/// A tree holds another value than a set leads from or to; before the path (status 8).
+pub const DIVERGED_AT: &str = "diverged at ";
+/// A tree holds a node that keeps a set from it; before the path (status 9).
+pub const BLOCKED_AT: &str = "blocked at ";
+/// A call on a tree failed (status 10).
+pub const TREE_FAILED: &str = "tree failed";
+/// A call on a tree was denied (status 11).
+pub const TREE_DENIED: &str = "tree denied";
 /// A file passes a limit (status 12).
 pub const TOO_LARGE: &str = "too large";
 /// A rule names a log that is not there (status 13).

@@ -2,18 +2,43 @@
 
 ghost use Rattle.std.specs.Prelude.{◌≡◌, ◌+◌, length};
 ghost use Rattle.tool_words.specs.Words.{texts_of, first_place};
-ghost use Rattle.tool_words.specs.Trees.{folder_places};
+ghost use Rattle.tool_words.specs.Trees.{folder_places, has_folder, takes_folder};
+ghost use Rattle.tool_words.specs.Commands.{commands, verb_in};
 
+use crate::commands::{Verb, verb_of};
+use crate::operands::are_plain;
 use std::ops::Range;
 
-/// The places of the words that name folders, which follow one another. No command that is built
-/// works on a folder.
-#[tactic(auto, using(crate::proofs::Table::no_places))]
+/// Whether the first operand of the command of this name names a folder.
+fn is_folder_command(name: &str) -> bool
+    ensures { result ≡ takes_folder (verb_in commands name.now) }
+{
+    match verb_of(name) {
+        Some(Verb::Seal | Verb::Apply) => true,
+        _ => false,
+    }
+}
+
+/// Whether the words are a command that takes a folder, and two plain operands.
+#[tactic(auto, using(crate::proofs::Folders::texts_length))]
+fn has_folder(words: &[String]) -> bool
+    ensures { result ≡ has_folder (texts_of words.now) }
+{
+    match words.split_first() {
+        Some((name, operands)) => {
+            operands.len() == 2 && is_folder_command(name.as_str()) && are_plain(operands)
+        }
+        None => false,
+    }
+}
+
+/// The places of the words that name folders, which follow one another.
+#[tactic(auto, using(crate::proofs::Folders::folder_here, crate::proofs::Folders::no_folder_here))]
 fn folder_words(words: &[String]) -> Range<usize>
     ensures start { result.start ≡ first_place (folder_places (texts_of words.now)) }
     ensures end { result.end ≡ result.start + length (folder_places (texts_of words.now)) }
 {
-    0..0
+    if has_folder(words) { 1..2 } else { 0..0 }
 }
 
 /// How many trees the job of the words works on, one for each word that names a folder; 0 where

@@ -3,4 +3,7 @@ pub mod TransitionLaws
 pub mod Parting
 pub mod Nets
 pub mod Made
+pub mod Weights
+pub mod WithinLogs
+pub mod TextSizes
 pub mod CallerLemmas

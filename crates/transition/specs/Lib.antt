@@ -1,2 +1,3 @@
 pub mod Transitions
 pub mod Parts
+pub mod Limits

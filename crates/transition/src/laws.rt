@@ -1,16 +1,21 @@
 //! Laws of transitions, over the definitions alone. Each is the contract of a function with an empty body.
 
-ghost use Rattle.std.specs.Prelude.{◌≡◌, ◌||◌, ◌&&◌, not, List, Some, None, IsTrue, if◌then◌else◌};
+ghost use Rattle.std.specs.Prelude.{◌≡◌, ◌<◌, ◌≤◌, ◌||◌, ◌&&◌, not, List, map, length, Some, None, IsTrue, if◌then◌else◌};
+ghost use Rattle.std.specs.List.{sum_by};
 ghost use Rattle.sync_path.specs.Paths.{Node};
+ghost use Rattle.sync_command.specs.declared.values.Version.{Version};
 ghost use Rattle.sync_command.specs.Values.{same_value};
 ghost use Rattle.sync_command.specs.Changes.{Change};
 ghost use Rattle.sync_command.specs.Trees.{Holding, command_at, after, one_each, Fits};
 ghost use Rattle.sync_command.specs.Maps.{Store, at};
+ghost use Rattle.log_text.specs.Logs.{log_text};
 ghost use Rattle.canon_set.specs.Logs.{names, net};
+ghost use Rattle.canon_set.specs.Sets.{canonical};
 ghost use Rattle.refluent.specs.Sets.{is_in, IsSubset};
 ghost use Rattle.refluent.specs.CommonTrees.{IsAmong, AllChange, IsCommonTree};
 ghost use Rattle.refluent.specs.Drawn.{drawn_commands};
 ghost use Rattle.transition.specs.Transitions.{change_between, transition, IsMadeOfNets};
+ghost use Rattle.transition.specs.Limits.{IsWithinLogs};
 
 /// The transition has a command at each node that one of the two sets names and at which their results differ, from
 /// the one result to the other.
@@ -53,4 +58,34 @@ pub fn transition_is_made_of_net_commands()
         (merger : List Change) → IsSubset merger (drawn_commands logs) →
         (c : Change) → IsTrue (is_in (transition (at m) (net log) merger) c) →
         IsMadeOfNets logs c }
+{}
+
+/// A drawn set with one command per node, as a merger is, has no more commands than the logs together, and its lines no
+/// more bytes than theirs.
+pub fn drawn_set_is_within_its_logs()
+    ensures { (logs : List (List Change)) (set : List Change) → IsTrue (one_each set) →
+        IsSubset set (drawn_commands logs) → IsWithinLogs logs set }
+{}
+
+/// The same holds of the transition of a log by such a set, on each common tree.
+pub fn transition_is_within_its_logs()
+    ensures { (logs : List (List Change)) (m : Store) → IsCommonTree m logs →
+        (log : List Change) → IsAmong log logs →
+        (merger : List Change) → IsTrue (one_each merger) →
+        IsSubset merger (drawn_commands logs) →
+        IsWithinLogs logs (transition (at m) (net log) merger) }
+{}
+
+/// A set within its logs is within them in the admissible order.
+pub fn canonical_list_is_within_its_logs()
+    ensures { (logs : List (List Change)) (set : List Change) →
+        IsWithinLogs logs set → IsWithinLogs logs (canonical set) }
+{}
+
+/// The text of a set within its logs is no longer than the texts of the logs together, where there is a log. Each text
+/// may be of either version.
+pub fn text_is_no_longer_than_those_of_its_logs()
+    ensures { (version : Version) (logs : List (Version × List Change)) (set : List Change) →
+        0 < length logs → IsWithinLogs (map (λ log. log.1) logs) set →
+        length (log_text version set) ≤ sum_by (λ log. length (log_text log.0 log.1)) logs }
 {}

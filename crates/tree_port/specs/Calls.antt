@@ -34,8 +34,8 @@ abbrev pub GivesKind : Node → Result Kind TreeFault → Store → Type 0
 GivesKind n result m = Answers ⊤ (λ k. k ≡ kind_of (at m n)) result
 
 -- `holds`: whether the node holds the value
-abbrev pub TellsIfHeld : Node → Value → Result Bool TreeFault → Store → Type 0
-TellsIfHeld n v result m = Answers ⊤ (λ b. IsTrue b ↔ (at m n ≡ v)) result
+abbrev pub AnswersIfHeld : Node → Value → Result Bool TreeFault → Store → Type 0
+AnswersIfHeld n v result m = Answers ⊤ (λ b. IsTrue b ↔ (at m n ≡ v)) result
 
 -- `read_file`: the contents of a file
 abbrev pub GivesBytes : Node → Result (List ℕ) TreeFault → Store → Type 0

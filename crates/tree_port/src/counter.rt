@@ -51,7 +51,8 @@ impl Counter {
 
     /// Counts the answer of a changing call.
     pub(crate) fn changed(&mut self, answer: &Result<(), TreeFault>)
-        ensures { IsChanging answer.now (unknown_tree (counts_of self.old)) (unknown_tree (counts_of self.new)) }
+        ensures { IsChanging answer.now (unknown_tree (counts_of self.old))
+            (unknown_tree (counts_of self.new)) }
     {
         match answer {
             Ok(()) => self.changes = self.changes.saturating_add(1),
@@ -63,7 +64,8 @@ impl Counter {
 
     /// Counts a fault, and gives it.
     pub(crate) fn failed(&mut self) -> TreeFault
-        ensures changing { IsChanging {T = Unit {0}} (Err result) (unknown_tree (counts_of self.old)) (unknown_tree (counts_of self.new)) }
+        ensures changing { IsChanging {T = Unit {0}} (Err result)
+            (unknown_tree (counts_of self.old)) (unknown_tree (counts_of self.new)) }
         ensures failed { result ≡ Failed }
     {
         self.faults = self.faults.saturating_add(1);
@@ -72,9 +74,11 @@ impl Counter {
 
     /// Counts a fault in the place of the answer, and gives it. Where memory ran out that is counted too.
     pub(crate) fn failed_after(&mut self, answer: Result<(), TreeFault>) -> TreeFault
-        ensures changing { IsChanging {T = Unit {0}} (Err result) (unknown_tree (counts_of self.old)) (unknown_tree (counts_of self.new)) }
+        ensures changing { IsChanging {T = Unit {0}} (Err result)
+            (unknown_tree (counts_of self.old)) (unknown_tree (counts_of self.new)) }
         ensures failed { result ≡ Failed }
-        ensures memory { answer ≡ Err Memory → IsCounted self.old.out_of_memory self.new.out_of_memory }
+        ensures memory { answer ≡ Err Memory →
+            IsCounted self.old.out_of_memory self.new.out_of_memory }
     {
         if let Err(TreeFault::Memory) = answer {
             self.out_of_memory = self.out_of_memory.saturating_add(1);

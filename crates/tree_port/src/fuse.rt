@@ -61,10 +61,12 @@ fn put_file(
     path: &Path,
     bytes: &Bytes,
 ) -> Result<(), TreeFault>
-    ensures counts { IsChanging result (unknown_tree (counts_of counter.old)) (unknown_tree (counts_of counter.new)) }
+    ensures counts { IsChanging result (unknown_tree (counts_of counter.old))
+        (unknown_tree (counts_of counter.new)) }
     ensures contents { PutsFile path.now bytes.now result map.old map.new }
     ensures fault { FailsIfShot shot result }
-    ensures shot { ShotPuts shot (CanPut (at map.old) path.now) path.now (File bytes.now) map.old map.new (counts_of counter.old) (counts_of counter.new) }
+    ensures shot { ShotPuts shot (CanPut (at map.old) path.now) path.now (File bytes.now) map.old
+        map.new (counts_of counter.old) (counts_of counter.new) }
 {
     match shot {
         None => {
@@ -84,10 +86,12 @@ fn make_dir(
     path: &Path,
     label: &Label,
 ) -> Result<(), TreeFault>
-    ensures counts { IsChanging result (unknown_tree (counts_of counter.old)) (unknown_tree (counts_of counter.new)) }
+    ensures counts { IsChanging result (unknown_tree (counts_of counter.old))
+        (unknown_tree (counts_of counter.new)) }
     ensures contents { MakesDir path.now label.now result map.old map.new }
     ensures fault { FailsIfShot shot result }
-    ensures shot { ShotPuts shot (CanMake (at map.old) path.now) path.now (Dir label.now) map.old map.new (counts_of counter.old) (counts_of counter.new) }
+    ensures shot { ShotPuts shot (CanMake (at map.old) path.now) path.now (Dir label.now) map.old
+        map.new (counts_of counter.old) (counts_of counter.new) }
 {
     match shot {
         None => {
@@ -107,10 +111,12 @@ fn set_label(
     path: &Path,
     label: &Label,
 ) -> Result<(), TreeFault>
-    ensures counts { IsChanging result (unknown_tree (counts_of counter.old)) (unknown_tree (counts_of counter.new)) }
+    ensures counts { IsChanging result (unknown_tree (counts_of counter.old))
+        (unknown_tree (counts_of counter.new)) }
     ensures contents { SetsLabel path.now label.now result map.old map.new }
     ensures fault { FailsIfShot shot result }
-    ensures shot { ShotPuts shot (is_dir (at map.old path.now) ≡ true) path.now (Dir label.now) map.old map.new (counts_of counter.old) (counts_of counter.new) }
+    ensures shot { ShotPuts shot (is_dir (at map.old path.now) ≡ true) path.now (Dir label.now)
+        map.old map.new (counts_of counter.old) (counts_of counter.new) }
 {
     match shot {
         None => {
@@ -129,10 +135,12 @@ fn remove(
     shot: Option<bool>,
     path: &Path,
 ) -> Result<(), TreeFault>
-    ensures counts { IsChanging result (unknown_tree (counts_of counter.old)) (unknown_tree (counts_of counter.new)) }
+    ensures counts { IsChanging result (unknown_tree (counts_of counter.old))
+        (unknown_tree (counts_of counter.new)) }
     ensures contents { Removes path.now result map.old map.new }
     ensures fault { FailsIfShot shot result }
-    ensures shot { ShotPuts shot (CanRemove (at map.old) path.now) path.now Empty map.old map.new (counts_of counter.old) (counts_of counter.new) }
+    ensures shot { ShotPuts shot (CanRemove (at map.old) path.now) path.now Empty map.old map.new
+        (counts_of counter.old) (counts_of counter.new) }
 {
     match shot {
         None => {
@@ -176,7 +184,7 @@ impl FuseTree {
 
 impl Tree for FuseTree {
     ghost use Rattle.std.specs.Prelude.{IfOk, option_copied};
-    ghost use Rattle.tree_port.specs.Calls.{GivesBytes, GivesChildren, GivesKind, GivesLabel, IsReading, TellsIfHeld};
+    ghost use Rattle.tree_port.specs.Calls.{GivesBytes, GivesChildren, GivesKind, GivesLabel, IsReading, AnswersIfHeld};
     ghost use Rattle.tree_port.specs.Conditions.{AreBelow};
     ghost use Rattle.tree_port.specs.InMemory.{CountsCall, fuse_state, next_shot};
 
@@ -196,7 +204,7 @@ impl Tree for FuseTree {
 
     fn holds(&mut self, path: &Path, value: &Value) -> Result<bool, TreeFault>
         ensures reading { IsReading result (fuse_state self.old) (fuse_state self.new) }
-        ensures answer { TellsIfHeld path.now value.now result (fuse_held self.old) }
+        ensures answer { AnswersIfHeld path.now value.now result (fuse_held self.old) }
         ensures fault { FailsIfShot (next_shot self.old) result }
         ensures call { CountsCall self.old self.new }
     {
@@ -245,9 +253,12 @@ impl Tree for FuseTree {
 
     fn put_file(&mut self, path: &Path, bytes: &Bytes) -> Result<(), TreeFault>
         ensures counts { IsChanging result (fuse_state self.old) (fuse_state self.new) }
-        ensures contents { PutsFile path.now bytes.now result (fuse_held self.old) (fuse_held self.new) }
+        ensures contents { PutsFile path.now bytes.now result (fuse_held self.old)
+            (fuse_held self.new) }
         ensures fault { FailsIfShot (next_shot self.old) result }
-        ensures shot { ShotPuts (next_shot self.old) (CanPut (at (fuse_held self.old)) path.now) path.now (File bytes.now) (fuse_held self.old) (fuse_held self.new) (fuse_counts self.old) (fuse_counts self.new) }
+        ensures shot { ShotPuts (next_shot self.old) (CanPut (at (fuse_held self.old)) path.now)
+            path.now (File bytes.now) (fuse_held self.old) (fuse_held self.new)
+            (fuse_counts self.old) (fuse_counts self.new) }
         ensures call { CountsCall self.old self.new }
     {
         let shot = next_shot(&mut self.calls, &self.shots);
@@ -256,9 +267,12 @@ impl Tree for FuseTree {
 
     fn make_dir(&mut self, path: &Path, label: &Label) -> Result<(), TreeFault>
         ensures counts { IsChanging result (fuse_state self.old) (fuse_state self.new) }
-        ensures contents { MakesDir path.now label.now result (fuse_held self.old) (fuse_held self.new) }
+        ensures contents { MakesDir path.now label.now result (fuse_held self.old)
+            (fuse_held self.new) }
         ensures fault { FailsIfShot (next_shot self.old) result }
-        ensures shot { ShotPuts (next_shot self.old) (CanMake (at (fuse_held self.old)) path.now) path.now (Dir label.now) (fuse_held self.old) (fuse_held self.new) (fuse_counts self.old) (fuse_counts self.new) }
+        ensures shot { ShotPuts (next_shot self.old) (CanMake (at (fuse_held self.old)) path.now)
+            path.now (Dir label.now) (fuse_held self.old) (fuse_held self.new)
+            (fuse_counts self.old) (fuse_counts self.new) }
         ensures call { CountsCall self.old self.new }
     {
         let shot = next_shot(&mut self.calls, &self.shots);
@@ -267,9 +281,13 @@ impl Tree for FuseTree {
 
     fn set_label(&mut self, path: &Path, label: &Label) -> Result<(), TreeFault>
         ensures counts { IsChanging result (fuse_state self.old) (fuse_state self.new) }
-        ensures contents { SetsLabel path.now label.now result (fuse_held self.old) (fuse_held self.new) }
+        ensures contents { SetsLabel path.now label.now result (fuse_held self.old)
+            (fuse_held self.new) }
         ensures fault { FailsIfShot (next_shot self.old) result }
-        ensures shot { ShotPuts (next_shot self.old) (is_dir (at (fuse_held self.old) path.now) ≡ true) path.now (Dir label.now) (fuse_held self.old) (fuse_held self.new) (fuse_counts self.old) (fuse_counts self.new) }
+        ensures shot { ShotPuts (next_shot self.old)
+            (is_dir (at (fuse_held self.old) path.now) ≡ true) path.now (Dir label.now)
+            (fuse_held self.old) (fuse_held self.new) (fuse_counts self.old)
+            (fuse_counts self.new) }
         ensures call { CountsCall self.old self.new }
     {
         let shot = next_shot(&mut self.calls, &self.shots);
@@ -280,7 +298,9 @@ impl Tree for FuseTree {
         ensures counts { IsChanging result (fuse_state self.old) (fuse_state self.new) }
         ensures contents { Removes path.now result (fuse_held self.old) (fuse_held self.new) }
         ensures fault { FailsIfShot (next_shot self.old) result }
-        ensures shot { ShotPuts (next_shot self.old) (CanRemove (at (fuse_held self.old)) path.now) path.now Empty (fuse_held self.old) (fuse_held self.new) (fuse_counts self.old) (fuse_counts self.new) }
+        ensures shot { ShotPuts (next_shot self.old) (CanRemove (at (fuse_held self.old)) path.now)
+            path.now Empty (fuse_held self.old) (fuse_held self.new) (fuse_counts self.old)
+            (fuse_counts self.new) }
         ensures call { CountsCall self.old self.new }
     {
         let shot = next_shot(&mut self.calls, &self.shots);

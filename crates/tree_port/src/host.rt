@@ -14,8 +14,6 @@ use sync_path::{NoMemory, Path};
 mod contents;
 mod folder;
 mod listing;
-#[cfg(test)]
-mod tests;
 
 /// The tree below a folder of a runtime, seen as its counts.
 ///

@@ -51,7 +51,8 @@ fn held(map: &TreeMap, path: &Path) -> Result<Value, NoMemory>
 /// Does the command; `Denied` exactly where that leaves no tree.
 fn apply(map: &mut TreeMap, command: Command) -> Result<(), TreeFault>
     requires { at map.old command.node ≡ command.old }
-    ensures puts { Puts (IsTree (put (at map.old) command.node command.new)) command.node command.new result map.old map.new }
+    ensures puts { Puts (IsTree (put (at map.old) command.node command.new)) command.node
+        command.new result map.old map.new }
     ensures fault { DidNotFail result }
 {
     match map.apply_owned(command) {
@@ -63,7 +64,8 @@ fn apply(map: &mut TreeMap, command: Command) -> Result<(), TreeFault>
 
 /// Puts the value at the node where that leaves a tree; `Denied` exactly where it does not.
 fn set(map: &mut TreeMap, path: &Path, value: Value) -> Result<(), TreeFault>
-    ensures puts { Puts (IsTree (put (at map.old) path.now value)) path.now value result map.old map.new }
+    ensures puts { Puts (IsTree (put (at map.old) path.now value)) path.now value result map.old
+        map.new }
     ensures fault { DidNotFail result }
     ensures tree { IsTreeMap map.old }
 {

@@ -33,7 +33,7 @@ impl MemTree {
 }
 
 impl Tree for MemTree {
-    ghost use Rattle.tree_port.specs.Calls.{GivesBytes, GivesChildren, GivesKind, GivesLabel, IsChanging, IsReading, MakesDir, PutsFile, Removes, SetsLabel, TellsIfHeld};
+    ghost use Rattle.tree_port.specs.Calls.{GivesBytes, GivesChildren, GivesKind, GivesLabel, IsChanging, IsReading, MakesDir, PutsFile, Removes, SetsLabel, AnswersIfHeld};
     ghost use Rattle.tree_port.specs.Conditions.{AreBelow};
     ghost use Rattle.tree_port.specs.InMemory.{DidNotFail, held_by, mem_state};
     ghost use Rattle.sync_command.specs.Maps.{IsTreeMap};
@@ -50,7 +50,7 @@ impl Tree for MemTree {
 
     fn holds(&mut self, path: &Path, value: &Value) -> Result<bool, TreeFault>
         ensures reading { IsReading result (mem_state self.old) (mem_state self.new) }
-        ensures answer { TellsIfHeld path.now value.now result (held_by self.old) }
+        ensures answer { AnswersIfHeld path.now value.now result (held_by self.old) }
         ensures fault { DidNotFail result }
     {
         Ok(maps::holds(&self.map, path, value))
@@ -89,7 +89,8 @@ impl Tree for MemTree {
 
     fn put_file(&mut self, path: &Path, bytes: &Bytes) -> Result<(), TreeFault>
         ensures counts { IsChanging result (mem_state self.old) (mem_state self.new) }
-        ensures contents { PutsFile path.now bytes.now result (held_by self.old) (held_by self.new) }
+        ensures contents { PutsFile path.now bytes.now result (held_by self.old)
+            (held_by self.new) }
         ensures fault { DidNotFail result }
     {
         let answer = maps::put_file(&mut self.map, path, bytes);
@@ -99,7 +100,8 @@ impl Tree for MemTree {
 
     fn make_dir(&mut self, path: &Path, label: &Label) -> Result<(), TreeFault>
         ensures counts { IsChanging result (mem_state self.old) (mem_state self.new) }
-        ensures contents { MakesDir path.now label.now result (held_by self.old) (held_by self.new) }
+        ensures contents { MakesDir path.now label.now result (held_by self.old)
+            (held_by self.new) }
         ensures fault { DidNotFail result }
     {
         let answer = maps::make_dir(&mut self.map, path, label);
@@ -109,7 +111,8 @@ impl Tree for MemTree {
 
     fn set_label(&mut self, path: &Path, label: &Label) -> Result<(), TreeFault>
         ensures counts { IsChanging result (mem_state self.old) (mem_state self.new) }
-        ensures contents { SetsLabel path.now label.now result (held_by self.old) (held_by self.new) }
+        ensures contents { SetsLabel path.now label.now result (held_by self.old)
+            (held_by self.new) }
         ensures fault { DidNotFail result }
     {
         let answer = maps::set_label(&mut self.map, path, label);

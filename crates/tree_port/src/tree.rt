@@ -4,7 +4,7 @@ ghost use Rattle.std.specs.Prelude.{◌≡◌, IfOk, option_copied};
 ghost use Rattle.sync_command.specs.Maps.{IsTreeMap};
 ghost use Rattle.tree_port.specs.States.{IfTreeKnown, TreeState, WhereKnown};
 ghost use Rattle.tree_port.specs.Conditions.{AreBelow};
-ghost use Rattle.tree_port.specs.Calls.{GivesBytes, GivesChildren, GivesKind, GivesLabel, IsChanging, IsReading, MakesDir, PutsFile, Removes, SetsLabel, TellsIfHeld};
+ghost use Rattle.tree_port.specs.Calls.{GivesBytes, GivesChildren, GivesKind, GivesLabel, IsChanging, IsReading, MakesDir, PutsFile, Removes, SetsLabel, AnswersIfHeld};
 
 use crate::TreeFault;
 use std::alloc::Global;
@@ -34,7 +34,7 @@ pub trait Tree: Drop {
     /// Whether the node holds the value.
     fn holds(&mut self, path: &Path, value: &Value) -> Result<bool, TreeFault>
         ensures reading { IsReading result (live self.old) (live self.new) }
-        ensures answer { WhereKnown (live self.old) (TellsIfHeld path.now value.now result) };
+        ensures answer { WhereKnown (live self.old) (AnswersIfHeld path.now value.now result) };
 
     /// The contents of a file. Condition: the node is a file.
     fn read_file(&mut self, alloc: Global, path: &Path) -> Result<Bytes, TreeFault>
@@ -51,22 +51,26 @@ pub trait Tree: Drop {
     fn children(&mut self, alloc: Global, path: Option<&Path>) -> Result<Vec<Path>, TreeFault>
         ensures reading { IsReading result (live self.old) (live self.new) }
         ensures below { IfOk result (λ found. AreBelow (option_copied path.entry) found.items) }
-        ensures answer { WhereKnown (live self.old) (GivesChildren (option_copied path.entry) result) };
+        ensures answer { WhereKnown (live self.old)
+            (GivesChildren (option_copied path.entry) result) };
 
     /// Puts a file with the contents. Condition: the node is a file or empty, and a root or below a directory.
     fn put_file(&mut self, path: &Path, bytes: &Bytes) -> Result<(), TreeFault>
         ensures counts { IsChanging result (live self.old) (live self.new) }
-        ensures contents { IfTreeKnown (live self.old) (live self.new) (PutsFile path.now bytes.now result) };
+        ensures contents { IfTreeKnown (live self.old) (live self.new)
+            (PutsFile path.now bytes.now result) };
 
     /// Makes a directory with the label. Condition: the node is empty, and a root or below a directory.
     fn make_dir(&mut self, path: &Path, label: &Label) -> Result<(), TreeFault>
         ensures counts { IsChanging result (live self.old) (live self.new) }
-        ensures contents { IfTreeKnown (live self.old) (live self.new) (MakesDir path.now label.now result) };
+        ensures contents { IfTreeKnown (live self.old) (live self.new)
+            (MakesDir path.now label.now result) };
 
     /// Gives a directory the label. Condition: the node is a directory.
     fn set_label(&mut self, path: &Path, label: &Label) -> Result<(), TreeFault>
         ensures counts { IsChanging result (live self.old) (live self.new) }
-        ensures contents { IfTreeKnown (live self.old) (live self.new) (SetsLabel path.now label.now result) };
+        ensures contents { IfTreeKnown (live self.old) (live self.new)
+            (SetsLabel path.now label.now result) };
 
     /// Empties the node. Condition: it is a file, or a directory without children.
     fn remove(&mut self, path: &Path) -> Result<(), TreeFault>

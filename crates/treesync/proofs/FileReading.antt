@@ -1,16 +1,17 @@
 -- A file that is read piece by piece, as the check of its bytes.
 use Rattle.std.proofs.Common.{◌≡◌, ◌⊎◌, ◌+◌, ◌++◌, ◌<◌, ◌≤◌, ℕ, List, [], ◌∷◌, Bool, true, false, length, sum, nat_lt, if◌then◌else◌, None, Some, Ok, Err, Option, Result, inl, inr, refl, sym, ap, subst, ◌∙◌, arith, length-append, append-nil, take}
 use Rattle.std.proofs.lemmas.Bool.Decides.{nat_tests}
-use Rattle.sync_port.specs.States.{FaultCounted, IfBoth, IfKnown}
+use Rattle.sync_port.specs.States.{IfBoth, IfKnown}
 use Rattle.sync_port.specs.Ports.{FileContents, FilesState, IsAbsentIn, OpenFaults, Opens, ReadFaults, Reads}
 use Rattle.sync_port.specs.declared.faults.PortFault.{PortFault}
 use Rattle.sync_port.specs.declared.faults.PortFault.TheVariants.{Failed}
 use Rattle.sync_port.specs.declared.faults.PortFault.TheVariants as port
 use Rattle.sync_port.proofs.CallerLemmas.{HasRead, both_more, both_then, counted_since, more_read}
-use Rattle.treesync.specs.Checks.{Answers, IsAllowed, ReadsFiles}
+use Rattle.treesync.specs.Checks.{Answers, Causes, FilesCounted, IsAllowed, ReadsFiles}
 use Rattle.treesync.specs.Files.{IsFile, call_refusal, file_answer}
 use Rattle.treesync.specs.declared.refusal.Refusal.{Refusal}
-use Rattle.treesync.specs.declared.refusal.Refusal.TheVariants.{OutOfMemory, ReadFailed, Found}
+use Rattle.treesync.specs.declared.refusal.Refusal.TheVariants.{OutOfMemory, CallFailed, Found}
+use Rattle.treesync.specs.declared.refusal.Failure.TheVariants.{ReadFailed}
 use Rattle.treesync.specs.declared.refusal.Finding.TheVariants.{TooLarge}
 
 -- the bytes stand for themselves
@@ -51,20 +52,20 @@ reads_within limit name bytes a b within h = both_more a b h (λ m k p. record {
 
 -- ---- a call that failed
 
-absent_file : (limit word : ℕ) (name : List ℕ) (m : FileContents) → m.held name ≡ None → IsFile limit word name m.held false (Err (ReadFailed word))
+absent_file : (limit word : ℕ) (name : List ℕ) (m : FileContents) → m.held name ≡ None → IsFile limit word name m.held false (Err (CallFailed (ReadFailed word)))
 absent_file limit word name m h = sym (ap (file_answer limit word) h)
 
-open_allowed : (limit word : ℕ) (name : List ℕ) (known : Option FileContents) (counted : Type 0) → counted ⊎ IsAbsentIn known name → IsAllowed (IsFile limit word name) known counted (Err (ReadFailed word))
+open_allowed : (limit word : ℕ) (name : List ℕ) (known : Option FileContents) (counted : Causes) → counted (ReadFailed word) ⊎ IsAbsentIn known name → IsAllowed (IsFile limit word name) known counted (Err (CallFailed (ReadFailed word)))
 open_allowed limit word name None counted (inl c) = c
 open_allowed limit word name None counted (inr a) = absurd a
 open_allowed limit word name (Some m) counted (inl c) = inr (c, refl)
 open_allowed limit word name (Some m) counted (inr a) = inl (absent_file limit word name m a)
 
-read_allowed : (limit word : ℕ) (name : List ℕ) (known : Option FileContents) (counted : Type 0) → counted → IsAllowed (IsFile limit word name) known counted (Err (ReadFailed word))
+read_allowed : (limit word : ℕ) (name : List ℕ) (known : Option FileContents) (counted : Causes) → counted (ReadFailed word) → IsAllowed (IsFile limit word name) known counted (Err (CallFailed (ReadFailed word)))
 read_allowed limit word name None counted c = c
 read_allowed limit word name (Some m) counted c = inr (c, refl)
 
-memory_allowed : (limit word : ℕ) (name : List ℕ) (known : Option FileContents) (counted : Type 0) → IsAllowed (IsFile limit word name) known counted (Err OutOfMemory)
+memory_allowed : (limit word : ℕ) (name : List ℕ) (known : Option FileContents) (counted : Causes) → IsAllowed (IsFile limit word name) known counted (Err OutOfMemory)
 memory_allowed limit word name None counted = tt
 memory_allowed limit word name (Some m) counted = tt
 
@@ -77,14 +78,14 @@ not_opened {T = T} limit word name before now Failed f h = record {
   later = f.later;
   quiet = tt;
   reads = opened_within T limit name Failed before.contents now.contents h;
-  allowed = open_allowed limit word name before.contents (FaultCounted before now) (f.failed refl);
+  allowed = open_allowed limit word name before.contents (FilesCounted before now) (f.failed refl);
   job = tt;
 }
 not_opened {T = T} limit word name before now port.Memory f h = record {
   later = f.later;
   quiet = tt;
   reads = opened_within T limit name port.Memory before.contents now.contents h;
-  allowed = memory_allowed limit word name before.contents (FaultCounted before now);
+  allowed = memory_allowed limit word name before.contents (FilesCounted before now);
   job = tt;
 }
 
@@ -98,14 +99,14 @@ not_read_on limit word name bytes buffer before mid now Failed within r f h = re
   later = omega (arith, r.faults, f.later);
   quiet = tt;
   reads = reads_within limit name bytes before.contents now.contents (omega (arith, within)) (still_read name bytes buffer Failed before.contents mid.contents now.contents r.read h);
-  allowed = read_allowed limit word name before.contents (FaultCounted before now) (counted_since before mid now (omega (arith, r.faults)) (f.failed refl));
+  allowed = read_allowed limit word name before.contents (FilesCounted before now) (counted_since before mid now (omega (arith, r.faults)) (f.failed refl));
   job = tt;
 }
 not_read_on limit word name bytes buffer before mid now port.Memory within r f h = record {
   later = omega (arith, r.faults, f.later);
   quiet = tt;
   reads = reads_within limit name bytes before.contents now.contents (omega (arith, within)) (still_read name bytes buffer port.Memory before.contents mid.contents now.contents r.read h);
-  allowed = memory_allowed limit word name before.contents (FaultCounted before now);
+  allowed = memory_allowed limit word name before.contents (FilesCounted before now);
   job = tt;
 }
 
@@ -125,13 +126,13 @@ not_kept limit word name bytes before now within r = record {
   later = omega (arith, r.faults);
   quiet = tt;
   reads = reads_within limit name bytes before.contents now.contents within r.read;
-  allowed = memory_allowed limit word name before.contents (FaultCounted before now);
+  allowed = memory_allowed limit word name before.contents (FilesCounted before now);
   job = tt;
 }
 
 -- ---- the end
 
-large_allowed : (limit word : ℕ) (name bytes : List ℕ) (a b : Option FileContents) (counted : Type 0) → limit < length bytes → IfBoth a b (HasRead name bytes) →
+large_allowed : (limit word : ℕ) (name bytes : List ℕ) (a b : Option FileContents) (counted : Causes) → limit < length bytes → IfBoth a b (HasRead name bytes) →
     IsAllowed (IsFile limit word name) a counted (Err (Found (TooLarge word)))
 large_allowed limit word name bytes None b counted past h = tt
 large_allowed limit word name bytes (Some m) None counted past h = absurd h
@@ -144,11 +145,11 @@ too_large limit word name bytes before now past r = record {
   later = omega (arith, r.faults);
   quiet = r.faults;
   reads = reads_within limit name bytes before.contents now.contents (omega (arith, past)) r.read;
-  allowed = large_allowed limit word name bytes before.contents now.contents (FaultCounted before now) (omega (arith, past)) r.read;
+  allowed = large_allowed limit word name bytes before.contents now.contents (FilesCounted before now) (omega (arith, past)) r.read;
   job = tt;
 }
 
-whole_allowed : (limit word : ℕ) (name bytes : List ℕ) (a b : Option FileContents) (counted : Type 0) → length bytes ≤ limit → IfBoth a b (λ m k. m.held name ≡ Some bytes) →
+whole_allowed : (limit word : ℕ) (name bytes : List ℕ) (a b : Option FileContents) (counted : Causes) → length bytes ≤ limit → IfBoth a b (λ m k. m.held name ≡ Some bytes) →
     IsAllowed (IsFile limit word name) a counted (Ok bytes)
 whole_allowed limit word name bytes None b counted within h = tt
 whole_allowed limit word name bytes (Some m) None counted within h = absurd h
@@ -168,7 +169,7 @@ all_read limit word name bytes buffer count before mid now none some within r f 
   allowed = (
     bytes,
     refl,
-    whole_allowed limit word name bytes before.contents now.contents (FaultCounted before now) within
+    whole_allowed limit word name bytes before.contents now.contents (FilesCounted before now) within
         (both_then before.contents mid.contents now.contents r.read h (λ m k j p q.
         let nothing : k.to_come ≡ [] = q.to_come ∙ ap (λ n. take n buffer ++ j.to_come) none ∙ q.end none some in
         p.bytes ∙ ap (λ t. Some (bytes ++ t)) nothing ∙ ap Some (append-nil bytes))),

@@ -35,11 +35,13 @@ use Rattle.tool_words.specs.Jobs.{job_of}
 use Rattle.tool_words.specs.Words.{Operand, Text}
 use Rattle.tool_words.specs.declared.job.Job.{Job}
 use Rattle.tool_words.specs.declared.job.Job.TheVariants.{Merge}
-use Rattle.treesync.specs.Checks.{Check, IsAllowed, IsOne, IsRight, Judged, Next, Then}
+use Rattle.treesync.specs.Checks.{Causes, Check, IsAllowed, IsOne, IsRight, Judged, Next, Then}
 use Rattle.treesync.specs.Ends.{Printed, Prints}
+use Rattle.treesync.specs.Outputs.{AsText, Output, WholeText, status_in, text_in}
 use Rattle.treesync.specs.Files.{IsFile, file_answer, text_answer}
-use Rattle.treesync.specs.Headline.{CompletesMerge, Gains, GainsMerger, HoldLogs, HoldTexts, HoldsRules, IsMergerOf, PrintsMerger, PrintsSteered, Recorded, all_commands, latest_version, text_of}
-use Rattle.treesync.specs.Jobs.{IsAnswer, IsAnswerOf, Outside, Ran}
+use Rattle.treesync.specs.Completeness.{HoldJoin}
+use Rattle.treesync.specs.Headline.{Completes, Gains, GainsMerger, HoldLogs, HoldTexts, HoldsRules, IsMergerOf, PrintsMerger, PrintsSteered, Recorded, all_commands, latest_version, text_of}
+use Rattle.treesync.specs.Jobs.{InputsCounted, IsAnswer, IsAnswerOf, IsCountedByFirst, Outside, Ran, held_tree, inputs_of}
 use Rattle.treesync.specs.Joining.{AllTaken, AreTaken, EachTaken, IsJoined, IsLogs, commands_of, joint_version, left_after}
 use Rattle.treesync.specs.Logs.{IsLog as IsLogFrom, ReadLog, later_version, log_answer}
 use Rattle.treesync.specs.Merge.{IsFirstMergerFor, IsMerge, IsMergeOf, IsMerged, IsMergerText}
@@ -50,15 +52,20 @@ use Rattle.treesync.specs.declared.logs.Allowance.{Allowance}
 use Rattle.treesync.specs.declared.logs.TheConstants.{FULL_ALLOWANCE}
 use Rattle.treesync.specs.declared.preferences.TheConstants.{PREFS_LIMIT}
 use Rattle.treesync.specs.declared.refusal.Refusal.{Refusal}
-use Rattle.treesync.specs.declared.refusal.Refusal.TheVariants.{InvalidArguments, OutOfMemory, ReadFailed, Found}
+use Rattle.treesync.specs.declared.refusal.Refusal.TheVariants.{InvalidArguments, OutOfMemory, CallFailed, Found}
+use Rattle.treesync.specs.declared.refusal.Failure.{Failure}
+use Rattle.treesync.specs.declared.refusal.Failure.TheVariants.{ReadFailed, TreeFailed, TreeDenied}
 use Rattle.treesync.specs.declared.refusal.Finding.TheVariants.{TooLarge}
-use Rattle.treesync.proofs.Unique.{answer_one, one_list}
-use Rattle.treesync.proofs.Words.{finding_above}
-use Rattle.treesync.proofs.HeldLogs.{all_change_held, held_logs, held_preferences, logs_read, ok_no_err, one_recorded, one_rules, preferences_read, reads_of, same_commands, same_version}
+use Rattle.treesync.proofs.PrintedSizes.{merger_within}
+use Rattle.treesync.proofs.SameSets.{one_list}
+use Rattle.treesync.proofs.Unique.{merge_one}
+use Rattle.treesync.proofs.OutputLemmas.{Three, as_text, three, whole_status}
+use Rattle.treesync.proofs.Words.{failure_above, finding_above}
+use Rattle.treesync.proofs.HeldLogs.{all_change_held, held_logs, held_preferences, logs_read, ok_is, ok_no_err, one_recorded, one_rules, preferences_read, reads_of, same_commands, same_version}
 
 -- ---- logs that some tree takes together
 
-taken_each : (all : List (List Change)) → HasCommonTree all → (logs : List Recorded) → ((cs : List Change) → IsAmong cs (all_commands logs) → IsAmong cs all) → AreTaken (reads_of logs)
+pub taken_each : (all : List (List Change)) → HasCommonTree all → (logs : List Recorded) → ((cs : List Change) → IsAmong cs (all_commands logs) → IsAmong cs all) → AreTaken (reads_of logs)
 taken_each all common [] part = tt
 taken_each all common (log ∷ logs) part = (
   record { map = common.map; tree = common.common.tree; takes = common.common.takes log.commands (part log.commands (inl refl)) },
@@ -67,14 +74,15 @@ taken_each all common (log ∷ logs) part = (
 
 -- ---- the right answer
 
+-- the logs as they were read are joined
+pub joined_read : (files : List Operand) (logs : List Recorded) → HasCommonTree (all_commands logs) → IsJoined files (reads_of logs) (Ok (reads_of logs))
+joined_read files logs common = inr (reads_of logs, (refl, taken_each (all_commands logs) common logs (λ cs i. i)), (refl, subst HasCommonTree (sym (same_commands logs)) common))
+
 right_answer : (held : Names) (prefs : Option Operand) (files : List Operand) (logs : List Recorded) (rules : List Rule) (merger : List Change) → HoldLogs held files logs → HoldsRules held prefs rules → HasCommonTree (all_commands logs) →
     first_fault (net_sets (all_commands logs)) rules ≡ None → IsFirstMergerFor (all_commands logs) rules merger → IsMerge prefs files held false (Ok (log_text (latest_version logs) (canonical merger)))
 right_answer held prefs files logs rules merger h p common none first =
-    inr (rules, preferences_read held prefs rules p, inr (reads_of logs, logs_read held files logs FULL_ALLOWANCE h.texts h.bytes h.commands, inr (reads_of logs, joined, inr (reads_of logs, (refl, no_fault), (merger, first_read, printed)))))
+    inr (rules, preferences_read held prefs rules p, inr (reads_of logs, logs_read held files logs FULL_ALLOWANCE h.texts h.bytes h.commands, inr (reads_of logs, joined_read files logs common, inr (reads_of logs, (refl, no_fault), (merger, first_read, printed)))))
   where
-    joined : IsJoined files (reads_of logs) (Ok (reads_of logs))
-    joined = inr (reads_of logs, (refl, taken_each (all_commands logs) common logs (λ cs i. i)), (refl, subst HasCommonTree (sym (same_commands logs)) common))
-
     no_fault : first_fault (net_sets (commands_of (reads_of logs))) rules ≡ None
     no_fault = ap (λ l. first_fault (net_sets l) rules) (same_commands logs) ∙ none
 
@@ -83,6 +91,14 @@ right_answer held prefs files logs rules merger h p common none first =
 
     printed : log_text (latest_version logs) (canonical merger) ≡ log_text (joint_version (reads_of logs)) (canonical merger)
     printed = ap (λ v. log_text v (canonical merger)) (sym (same_version logs))
+
+-- the logs that the files hold are merged
+pub merge_right : (held : Names) (prefs : Option Operand) (files : List Operand) → HoldJoin held prefs files → (text : List ℕ) × IsMerge prefs files held false (Ok text)
+merge_right held prefs files h = (
+  log_text (latest_version h.logs) (canonical (greedy_scan (ranking (all_commands h.logs) h.rules) [])),
+  right_answer held prefs files h.logs h.rules (greedy_scan (ranking (all_commands h.logs) h.rules) []) h.hold h.prefer h.common h.named
+      (λ t tree. greedy_law (all_commands h.logs) (all_change_held held files h.logs h.hold.texts) t tree h.rules),
+)
 
 -- ---- the rules that steer to a merger have no fault
 
@@ -184,29 +200,104 @@ printed_of held prefs files text (inr (rules, p, inr (reads, l, inr (joined, inr
 
 -- ---- the answer of a run
 
-gained : (status : ℕ) (text : List ℕ) (a b : SinkState) → status ≡ 0 → Prints (Ok text) status a b → Gains text a b
-gained status text a b z p = both_more a.contents b.contents p.1 (λ m k w. w.whole z)
+gained : (status : ℕ) (output : Output) (a b : SinkState) → status ≤ 1 → Prints (Ok output) status a b → Gains (text_in output) a b
+gained status output a b low p = both_more a.contents b.contents p.1 (λ m k w. w.whole low)
 
--- a run that ended with status 0, over files that are known
-pub found_text : (words : List Text) (before now : Outside) (m : FileContents) (counted : Type 0) (contents : Option FileContents) (status : ℕ) (answer : Result (List ℕ) Refusal) → status ≡ 0 → contents ≡ Some m →
-    IsAllowed (IsAnswer words) contents counted answer → Prints answer status before.out now.out → (text : List ℕ) × IsAnswer words m.held false (Ok text) × Gains text before.out now.out
-found_text words before now m counted None status answer z e h p = absurd (cc)
-found_text words before now m counted (Some k) status (Ok text) z e h p =
-    let same : k ≡ m = cc in (text, subst (λ x. IsAnswer words x.held false (Ok text)) same h, gained status text before.out now.out z p)
-found_text words before now m counted (Some k) status (Err InvalidArguments) z e h p = absurd (omega (arith, p.0))
-found_text words before now m counted (Some k) status (Err OutOfMemory) z e h p = absurd (omega (arith, p.0))
-found_text words before now m counted (Some k) status (Err (ReadFailed word)) z e h p = absurd (omega (arith, p.0))
-found_text words before now m counted (Some k) status (Err (Found finding)) z e h p = absurd (omega (arith, p.0, finding_above finding))
+-- what a run printed that ended with the status of a whole output, over files that are known
+pub record IsFound (words : List Text) (tree : Option Store) (held : Names) (before now : Outside) (status : ℕ) : Type 0 where
+  pub output : Output
+  pub right : IsAnswer words tree held false (Ok output)
+  pub ends : status ≡ status_in output
+  pub gains : Gains (text_in output) before.out now.out
 
-pub job_answer : (words : List Text) (job : Job) (held : Names) (answer : Result (List ℕ) Refusal) → job_of words ≡ Some job → IsAnswer words held false answer → IsAnswerOf (Some job) held false answer
-job_answer words job held answer e h = subst (λ j. IsAnswerOf j held false answer) e h
+pub found_output : (words : List Text) (before now : Outside) (m : FileContents) (tree : Option Store) (counted : Causes) (contents : Option FileContents) (status : ℕ) (answer : Result Output Refusal) → status ≤ 1 → contents ≡ Some m →
+    IsAllowed (IsAnswer words tree) contents counted answer → Prints answer status before.out now.out → IsFound words tree m.held before now status
+found_output words before now m tree counted None status answer z e h p = absurd (cc)
+found_output words before now m tree counted (Some k) status (Ok output) z e h p =
+    let same : k ≡ m = cc in
+    record {
+      output = output;
+      right = subst (λ x. IsAnswer words tree x.held false (Ok output)) same h;
+      ends = (whole_status output status before.out now.out z p.0).0;
+      gains = gained status output before.out now.out z p;
+    }
+found_output words before now m tree counted (Some k) status (Err InvalidArguments) z e h p = absurd (omega (arith, z, p.0))
+found_output words before now m tree counted (Some k) status (Err OutOfMemory) z e h p = absurd (omega (arith, z, p.0))
+found_output words before now m tree counted (Some k) status (Err (CallFailed failure)) z e h p = absurd (omega (arith, z, p.0, failure_above failure))
+found_output words before now m tree counted (Some k) status (Err (Found finding)) z e h p = absurd (omega (arith, z, p.0, finding_above finding))
+
+pub job_answer : (words : List Text) (job : Job) (tree : Option Store) (held : Names) (answer : Result Output Refusal) → job_of words ≡ Some job → IsAnswer words tree held false answer → IsAnswerOf (Some job) tree held false answer
+job_answer words job tree held answer e h = subst (λ j. IsAnswerOf j tree held false answer) e h
+
+-- the text that a command printed
+pub record IsFoundText (P : Check (List ℕ)) (held : Names) (before now : SinkState) : Type 0 where
+  pub text : List ℕ
+  pub right : P held false (Ok text)
+  pub gains : Gains text before now
+
+pub found_text : (words : List Text) (before now : Outside) (status : ℕ) → Ran words before now status → (job : Job) (P : Check (List ℕ)) (m : FileContents) → IsAnswerOf (Some job) (held_tree before.trees) ≡ AsText P →
+    job_of words ≡ Some job → before.files.contents ≡ Some m → status ≡ 0 → IsFoundText P m.held before.out now.out
+found_text words before now status ran job P m is e known z =
+    let found = found_output words before now m (held_tree before.trees) (InputsCounted (inputs_of before) (inputs_of now)) before.files.contents status ran.answer (omega (arith, z)) known ran.allowed ran.prints in
+    let right : AsText P m.held false (Ok found.output) =
+    subst (λ (C : Check Output). C m.held false (Ok found.output)) is (job_answer words job (held_tree before.trees) m.held (Ok found.output) e found.right) in
+    let t = as_text P m.held found.output right in
+    record {
+      text = t.0;
+      right = t.1;
+      gains = subst (λ o. Gains (text_in o) before.out now.out) t.2 found.gains;
+    }
+
+-- no call of a run without trees was refused
+pub no_calls : (before now : Outside) → before.trees ≡ [] → (FaultCounted before.files now.files → ⊥) → (failure : Failure) → InputsCounted (inputs_of before) (inputs_of now) failure → ⊥
+no_calls before now alone quiet (ReadFailed word) h = quiet h
+no_calls before now alone quiet (TreeFailed word) h = subst (λ trees. IsCountedByFirst (λ c. c.faults) trees now.trees) alone h
+no_calls before now alone quiet (TreeDenied word) h = subst (λ trees. IsCountedByFirst (λ c. c.denials) trees now.trees) alone h.0
+
+-- where a text is right no refusal is
+no_text_refusal : (P : Check (List ℕ)) (held : Names) (text : List ℕ) (r : Refusal) → IsOne P → P held false (Ok text) → AsText P held false (Err r) → ⊥
+no_text_refusal P held text r one right (inl h) = ok_no_err (one held (Ok text) (Err h.0) right h.1)
+no_text_refusal P held text r one right (inr h) = ok_no_err (sym h.2)
 
 module _ (words : List Text) (before now : Outside) (status : ℕ) (ran : Ran words before now status) where
+  -- Where no refusal is right, the run ends with a right output or for want of memory, unless a call was refused.
+  pub completes_of : (m : FileContents) (C : Check Output) → ((answer : Result Output Refusal) → IsAnswer words (held_tree before.trees) m.held false answer → C m.held false answer) → before.files.contents ≡ Some m →
+      ((r : Refusal) → C m.held false (Err r) → ⊥) → ((failure : Failure) → InputsCounted (inputs_of before) (inputs_of now) failure → ⊥) → (FaultCounted before.out now.out → ⊥) →
+      ((output : Output) × C m.held false (Ok output) × (status ≡ status_in output)) ⊎ (status ≡ 16)
+  completes_of m C is known no_refusal quiet out_quiet = by before.files.contents known ran.answer ran.allowed ran.prints
+    where
+      there : (k : FileContents) (answer : Result Output Refusal) → k ≡ m → IsAnswer words (held_tree before.trees) k.held false answer → C m.held false answer
+      there k answer same h = is answer (subst (λ y. IsAnswer words (held_tree before.trees) y.held false answer) same h)
+
+      ends : (output : Output) → C m.held false (Ok output) → Three output status before.out now.out → ((output : Output) × C m.held false (Ok output) × (status ≡ status_in output)) ⊎ (status ≡ 16)
+      ends output h (inl z) = inl (output, h, z.0)
+      ends output h (inr (inl z)) = absurd (out_quiet z.1)
+      ends output h (inr (inr z)) = inr z.0
+
+      by : (contents : Option FileContents) → contents ≡ Some m → (answer : Result Output Refusal) → IsAllowed (IsAnswer words (held_tree before.trees)) contents (InputsCounted (inputs_of before) (inputs_of now)) answer →
+          Prints answer status before.out now.out → ((output : Output) × C m.held false (Ok output) × (status ≡ status_in output)) ⊎ (status ≡ 16)
+      by None k answer h p = absurd (cc)
+      by (Some x) k (Ok output) h p = let same : x ≡ m = cc in ends output (there x (Ok output) same h) (three output status before.out now.out p.0)
+      by (Some x) k (Err OutOfMemory) h p = inr p.0
+      by (Some x) k (Err InvalidArguments) h p = let same : x ≡ m = cc in absurd (no_refusal InvalidArguments (there x (Err InvalidArguments) same h))
+      by (Some x) k (Err (CallFailed failure)) (inl h) p = let same : x ≡ m = cc in absurd (no_refusal (CallFailed failure) (there x (Err (CallFailed failure)) same h))
+      by (Some x) k (Err (CallFailed failure)) (inr h) p = absurd (quiet failure h.0)
+      by (Some x) k (Err (Found finding)) h p = let same : x ≡ m = cc in absurd (no_refusal (Found finding) (there x (Err (Found finding)) same h))
+
+  -- the same of a text
+  pub text_completes : (m : FileContents) (P : Check (List ℕ)) → IsOne P → ((answer : Result Output Refusal) → IsAnswer words (held_tree before.trees) m.held false answer → AsText P m.held false answer) → before.files.contents ≡ Some m →
+      (text : List ℕ) → P m.held false (Ok text) → ((failure : Failure) → InputsCounted (inputs_of before) (inputs_of now) failure → ⊥) → (FaultCounted before.out now.out → ⊥) → (status ≡ 0) ⊎ (status ≡ 16)
+  text_completes m P one is known text right quiet out_quiet = by (completes_of m (AsText P) is known (λ r h. no_text_refusal P m.held text r one right h) quiet out_quiet)
+    where
+      by : ((output : Output) × AsText P m.held false (Ok output) × (status ≡ status_in output)) ⊎ (status ≡ 16) → (status ≡ 0) ⊎ (status ≡ 16)
+      by (inl (output, h, e)) = inl (e ∙ ap status_in (as_text P m.held output h).2)
+      by (inr e) = inr e
+
   printed_now : (prefs : Option Operand) (files : List Operand) (m : FileContents) → job_of words ≡ Some (Merge prefs files) → before.files.contents ≡ Some m → status ≡ 0 →
       (text : List ℕ) × IsPrinted m.held prefs files text × Gains text before.out now.out
   printed_now prefs files m e known z =
-      let found = found_text words before now m (FaultCounted before.files now.files) before.files.contents status ran.answer z known ran.allowed ran.prints in
-      (found.0, printed_of m.held prefs files found.0 (job_answer words (Merge prefs files) m.held (Ok found.0) e found.1), found.2)
+      let found = found_text words before now status ran (Merge prefs files) (IsMerge prefs files) m refl e known z in
+      (found.text, printed_of m.held prefs files found.text found.right, found.gains)
 
   pub prints_merger : PrintsMerger words before now status
   prints_merger prefs files m e known z =
@@ -221,6 +312,7 @@ module _ (words : List Text) (before now : Outside) (status : ℕ) (ran : Ran wo
         merger = p.merger;
         is = λ t common. (p.first t common).merger;
         first = p.first;
+        within = let here = p.first p.common.map p.common.common in merger_within p.logs p.hold.bytes p.hold.commands (latest_version p.logs) p.merger here.merger.fits.one here.merger.within;
         gains = subst (λ text. Gains text before.out now.out) p.is found.2;
       }
 
@@ -243,36 +335,19 @@ module _ (words : List Text) (before now : Outside) (status : ℕ) (ran : Ran wo
       (drawn_ranked (all_commands logs) (steering_rules (all_commands logs) merger)) here other) in
       subst (λ text. Gains text before.out now.out) (p.is ∙ ap (λ l. log_text (latest_version l) (canonical p.merger)) same_logs ∙ ap (log_text (latest_version logs)) lists) found.2
 
-  pub completes_merge : CompletesMerge words before now status
-  completes_merge prefs files m logs rules e known hold prefer common none files_quiet out_quiet =
-      by before.files.contents known ran.answer ran.allowed ran.prints
-    where
-      first : IsFirstMergerFor (all_commands logs) rules (greedy_scan (ranking (all_commands logs) rules) [])
-      first t tree = greedy_law (all_commands logs) (all_change_held m.held files logs hold.texts) t tree rules
-
-      text : List ℕ
-      text = log_text (latest_version logs) (canonical (greedy_scan (ranking (all_commands logs) rules) []))
-
-      right : IsAnswer words m.held false (Ok text)
-      right = subst (λ j. IsAnswerOf j m.held false (Ok text)) (sym e) (right_answer m.held prefs files logs rules (greedy_scan (ranking (all_commands logs) rules) []) hold prefer common none first)
-
-      no_refusal : (r : Refusal) → IsAnswer words m.held false (Err r) → ⊥
-      no_refusal r h = ok_no_err (answer_one words m.held (Ok text) (Err r) right h)
-
-      by : (contents : Option FileContents) → contents ≡ Some m → (answer : Result (List ℕ) Refusal) → IsAllowed (IsAnswer words) contents (FaultCounted before.files now.files) answer → Prints answer status before.out now.out →
-          (status ≡ 0) ⊎ (status ≡ 16)
-      by None k answer h p = absurd (cc)
-      by (Some x) k (Ok t) h (inl z, w) = inl z.0
-      by (Some x) k (Ok t) h (inr z, w) = absurd (out_quiet z.1)
-      by (Some x) k (Err OutOfMemory) h p = inr p.0
-      by (Some x) k (Err InvalidArguments) h p = let same : x ≡ m = cc in absurd (no_refusal InvalidArguments (subst (λ y. IsAnswer words y.held false (Err InvalidArguments)) same h))
-      by (Some x) k (Err (ReadFailed word)) (inl h) p = let same : x ≡ m = cc in absurd (no_refusal (ReadFailed word) (subst (λ y. IsAnswer words y.held false (Err (ReadFailed word))) same h))
-      by (Some x) k (Err (ReadFailed word)) (inr h) p = absurd (files_quiet h.0)
-      by (Some x) k (Err (Found finding)) h p = let same : x ≡ m = cc in absurd (no_refusal (Found finding) (subst (λ y. IsAnswer words y.held false (Err (Found finding))) same h))
-
-  pub prints_steered : PrintsSteered words before now status
-  prints_steered prefs files m logs merger e known hold common is prefer = (
+  pub prints_steered : ((prefs : Option Operand) (files : List Operand) → job_of words ≡ Some (Merge prefs files) → before.trees ≡ []) → PrintsSteered words before now status
+  prints_steered alone prefs files m logs merger e known hold common is prefer = (
     λ z. printed_steered prefs files m logs merger e known z hold is prefer,
-    completes_merge prefs files m logs (steering_rules (all_commands logs) merger) e known hold prefer common
-        (no_steering_fault (all_commands logs) merger (is common.map common.common).fits.one (is common.map common.common).within),
+    λ files_quiet out_quiet. text_completes m (IsMerge prefs files) (merge_one prefs files) (λ answer h. job_answer words (Merge prefs files) (held_tree before.trees) m.held answer e h) known right.0 right.1
+        (no_calls before now (alone prefs files e) files_quiet) out_quiet,
   )
+    where
+      right : (text : List ℕ) × IsMerge prefs files m.held false (Ok text)
+      right = merge_right m.held prefs files (record {
+        logs = logs;
+        rules = steering_rules (all_commands logs) merger;
+        hold = hold;
+        prefer = prefer;
+        common = common;
+        named = no_steering_fault (all_commands logs) merger (is common.map common.common).fits.one (is common.map common.common).within;
+      })

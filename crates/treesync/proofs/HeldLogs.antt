@@ -5,19 +5,21 @@ use Rattle.std.proofs.lemmas.Bool.Decides.{nat_tests}
 use Rattle.std.proofs.lemmas.List.Sums.{sum_by-cons}
 use Rattle.sync_path.specs.Paths.{parts}
 use Rattle.sync_command.specs.Changes.{Change, is_change}
+use Rattle.sync_command.specs.declared.commands.Row.{Row}
 use Rattle.sync_command.specs.declared.values.Version.{Version}
 use Rattle.sync_port.specs.Ports.{Names}
 use Rattle.canon_set.specs.Logs.{all_change}
 use Rattle.log_text.specs.Logs.{IsCommand, IsLog, log_of, log_text}
+use Rattle.log_text.specs.Snapshots.{IsSnapshot, snapshot_text}
 use Rattle.log_text.specs.declared.faults.TextFault.{TextFault}
-use Rattle.log_text.proofs.CallerLemmas.{log_back, log_is, one_log}
+use Rattle.log_text.proofs.CallerLemmas.{log_back, log_is, one_log, snapshot_back}
 use Rattle.refluent.specs.CommonTrees.{AllChange}
 use Rattle.pref_list.specs.Prefs.{IsPrefs, prefs_of, prefs_text}
 use Rattle.pref_list.specs.declared.rules.Rule.{Rule}
 use Rattle.pref_list.proofs.CallerLemmas.{one_prefs, prefs_back, prefs_is}
 use Rattle.tool_words.specs.Words.{Operand, Text}
 use Rattle.treesync.specs.Checks.{Check, Judged, Then}
-use Rattle.treesync.specs.Files.{IsFile, file_answer, text_answer}
+use Rattle.treesync.specs.Files.{IsFile, IsSnapshot as IsSnapshotFrom, file_answer, text_answer}
 use Rattle.treesync.specs.Headline.{HoldTexts, HoldsRules, Recorded, all_commands, latest_version, text_of}
 use Rattle.treesync.specs.Joining.{IsLogs, commands_of, joint_version, left_after}
 use Rattle.treesync.specs.Logs.{IsLog as IsLogFrom, ReadLog, later_version, log_answer}
@@ -59,10 +61,10 @@ same_version (log ∷ logs) = ap (later_version log.version) (same_version logs)
 -- ---- what the files hold is read
 
 module _ (held : Names) where
-  file_read : (limit word : ℕ) (name bytes : List ℕ) → held name ≡ Some bytes → length bytes ≤ limit → IsFile limit word name held false (Ok bytes)
+  pub file_read : (limit word : ℕ) (name bytes : List ℕ) → held name ≡ Some bytes → length bytes ≤ limit → IsFile limit word name held false (Ok bytes)
   file_read limit word name bytes e low = sym (ap (file_answer limit word) e ∙ if_not_less limit (length bytes) _ _ low)
 
-  log_read : (left : Allowance) (file : Operand) (log : Recorded) → held file.text ≡ Some (text_of log) → IsLog log.version log.commands → length (text_of log) ≤ left.bytes → length log.commands ≤ left.commands →
+  pub log_read : (left : Allowance) (file : Operand) (log : Recorded) → held file.text ≡ Some (text_of log) → IsLog log.version log.commands → length (text_of log) ≤ left.bytes → length log.commands ≤ left.commands →
       IsLogFrom left file.place file.text held false (Ok (read_of log))
   log_read left file log e is bytes commands =
       inr (
@@ -90,6 +92,11 @@ module _ (held : Names) where
   preferences_read (Some file) rules h =
       inr (prefs_text rules, file_read PREFS_LIMIT file.place file.text (prefs_text rules) h.0 h.2, sym (ap (text_answer file.place) (prefs_back rules h.1)))
 
+  pub snapshot_read : (file : Operand) (version : Version) (rows : List Row) → held file.text ≡ Some (snapshot_text version rows) → IsSnapshot version rows → length (snapshot_text version rows) ≤ FILE_LIMIT →
+      IsSnapshotFrom file.place file.text held false (Ok (version, rows))
+  snapshot_read file version rows e is low =
+      inr (snapshot_text version rows, file_read FILE_LIMIT file.place file.text (snapshot_text version rows) e low, sym (ap (text_answer file.place) (snapshot_back version rows is)))
+
   -- ---- and what is read is held
 
   held_file : (limit word : ℕ) (name bytes : List ℕ) → IsFile limit word name held false (Ok bytes) → (held name ≡ Some bytes) × (length bytes ≤ limit)
@@ -112,7 +119,7 @@ module _ (held : Names) where
     pub bytes : length (text_of log) ≤ left.bytes
     pub commands : length log.commands ≤ left.commands
 
-  held_log : (left : Allowance) (file : Operand) (read : ReadLog) → IsLogFrom left file.place file.text held false (Ok read) → HeldLog left file read
+  pub held_log : (left : Allowance) (file : Operand) (read : ReadLog) → IsLogFrom left file.place file.text held false (Ok read) → HeldLog left file read
   held_log left file read (inl h) = absurd (ok_no_err h.2)
   held_log left file read (inr h) = by (log_of (parts 10 h.0)) refl h.2
     where

@@ -26,7 +26,7 @@ use Rattle.treesync.specs.declared.input.TheConstants.{FILE_LIMIT}
 use Rattle.treesync.specs.declared.logs.LogFile.{LogFile}
 use Rattle.treesync.specs.declared.logs.TheConstants.{FULL_ALLOWANCE}
 use Rattle.treesync.specs.declared.refusal.Refusal.{Refusal}
-use Rattle.treesync.specs.declared.refusal.Refusal.TheVariants.{InvalidArguments, OutOfMemory, ReadFailed, Found}
+use Rattle.treesync.specs.declared.refusal.Refusal.TheVariants.{InvalidArguments, OutOfMemory, CallFailed, Found}
 use Rattle.treesync.specs.declared.refusal.Finding.TheVariants.{NoTree, NotTaken}
 use Rattle.treesync.proofs.CheckLemmas.{then_handed_on, then_judged, then_next, fewer_files}
 use Rattle.treesync.proofs.Labels.{after_printable, net_printable}
@@ -71,7 +71,7 @@ pub same_text : (Q : Result (List ℕ) Refusal → Type 0) (text : List ℕ) (re
 same_text Q text (Ok x) q (a, e, f) = (a, e, subst Q (sym f) q)
 same_text Q text (Err InvalidArguments) q h = absurd h
 same_text Q text (Err OutOfMemory) q h = tt
-same_text Q text (Err (ReadFailed word)) q h = absurd h
+same_text Q text (Err (CallFailed failure)) q h = absurd h
 same_text Q text (Err (Found finding)) q h = absurd (cc)
 
 module _ (rows : List Row) (commands : Vec Command Global) (tree : Store) (done : tree ≡ stored (store_of rows) commands.items) (version log_version : Version) where

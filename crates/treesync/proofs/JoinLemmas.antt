@@ -24,7 +24,7 @@ use Rattle.treesync.specs.declared.logs.Allowance.{Allowance}
 use Rattle.treesync.specs.declared.logs.LogFile.{LogFile}
 use Rattle.treesync.specs.declared.logs.Total.{Total}
 use Rattle.treesync.specs.declared.refusal.Refusal.{Refusal}
-use Rattle.treesync.specs.declared.refusal.Refusal.TheVariants.{InvalidArguments, OutOfMemory, ReadFailed, Found}
+use Rattle.treesync.specs.declared.refusal.Refusal.TheVariants.{InvalidArguments, OutOfMemory, CallFailed, Found}
 use Rattle.treesync.specs.declared.refusal.Finding.TheVariants.{NoTree}
 use Rattle.treesync.proofs.CheckLemmas.{fewer_files, judged_alone, memory_alone, then_handed_on, then_judged, then_next, then_refused}
 

@@ -16,13 +16,13 @@ take-nil zero = refl
 take-nil (suc n) = refl
 
 -- the first bytes of the first text are the first of both
-first_of_both : (x y : List ℕ) (n : ℕ) → (k : ℕ) × (take k (x ++ y) ≡ take n x)
+pub first_of_both : (x y : List ℕ) (n : ℕ) → (k : ℕ) × (take k (x ++ y) ≡ take n x)
 first_of_both [] y n = (0, sym (take-nil n))
 first_of_both (b ∷ x) y zero = (0, refl)
 first_of_both (b ∷ x) y (suc n) = let rest = first_of_both x y n in (suc rest.0, ap (λ l. b ∷ l) rest.1)
 
 -- the whole first text and the first bytes of the second are the first of both
-first_beyond : (x y : List ℕ) (n : ℕ) → (k : ℕ) × (take k (x ++ y) ≡ x ++ take n y)
+pub first_beyond : (x y : List ℕ) (n : ℕ) → (k : ℕ) × (take k (x ++ y) ≡ x ++ take n y)
 first_beyond [] y n = (n, refl)
 first_beyond (b ∷ x) y n = let rest = first_beyond x y n in (suc rest.0, ap (λ l. b ∷ l) rest.1)
 

@@ -5,7 +5,6 @@ use Rattle.sync_command.specs.Changes.{Change}
 use Rattle.sync_command.specs.Maps.{Store, IsTreeMap, at, stored}
 use Rattle.sync_command.specs.Trees.{Fits, Holding, Takes, after, new_or, one_each}
 use Rattle.sync_command.proofs.CallerLemmas.{same_fits}
-use Rattle.sync_port.specs.States.{FaultCounted}
 use Rattle.sync_port.specs.Ports.{FileContents, Names}
 use Rattle.canon_set.specs.Logs.{net}
 use Rattle.canon_set.specs.Sets.{canonical}
@@ -24,14 +23,15 @@ use Rattle.tool_words.specs.Jobs.{job_of}
 use Rattle.tool_words.specs.Words.{Operand, Text}
 use Rattle.tool_words.specs.declared.job.Job.TheVariants.{Transition}
 use Rattle.treesync.specs.Headline.{Gains, HoldLogs, HoldsRules, LeadsToMerger, PrintsTransition, Recorded, all_commands, latest_version}
-use Rattle.treesync.specs.Jobs.{IsAnswer, Outside, Ran}
+use Rattle.treesync.specs.Jobs.{InputsCounted, IsAnswer, Outside, Ran, held_tree, inputs_of}
 use Rattle.treesync.specs.Joining.{commands_of, joint_version}
 use Rattle.treesync.specs.Merge.{IsFirstMergerFor}
 use Rattle.treesync.specs.Transition.{IsTransition, IsTransitionFor}
 use Rattle.treesync.specs.declared.logs.TheConstants.{FULL_ALLOWANCE}
-use Rattle.treesync.proofs.HeadlineLemmas.{found_text, job_answer}
+use Rattle.treesync.proofs.PrintedSizes.{transition_within_limits}
+use Rattle.treesync.proofs.HeadlineLemmas.{found_text}
 use Rattle.treesync.proofs.HeldLogs.{held_logs, held_preferences, ok_no_err, reads_of, same_commands, same_version}
-use Rattle.treesync.proofs.Unique.{same_at}
+use Rattle.treesync.proofs.SameSets.{same_at}
 
 -- ---- where a transition leads
 
@@ -108,8 +108,8 @@ printed_of held number prefs files text (inr (rules, p, inr (reads, l, inr (join
 
 pub prints_transition : (words : List Text) (before now : Outside) (status : ℕ) → Ran words before now status → PrintsTransition words before now status
 prints_transition words before now status ran number prefs files m e known z =
-    let found = found_text words before now m (FaultCounted before.files now.files) before.files.contents status ran.answer z known ran.allowed ran.prints in
-    let p = printed_of m.held number prefs files found.0 (job_answer words (Transition number prefs files) m.held (Ok found.0) e found.1) in
+    let found = found_text words before now status ran (Transition number prefs files) (IsTransition number prefs files) m refl e known z in
+    let p = printed_of m.held number prefs files found.text found.right in
     record {
       logs = p.logs;
       rules = p.rules;
@@ -118,5 +118,8 @@ prints_transition words before now status ran number prefs files m e known z =
       common = p.common;
       set = p.set;
       leads = λ merger first. leads_to (all_commands p.logs) p.rules number p.merger p.set merger p.first p.transition first;
-      gains = subst (λ text. Gains text before.out now.out) p.is found.2;
+      within =
+          let here = p.first p.common.map p.common.common in
+          transition_within_limits p.logs p.hold.bytes p.hold.commands (latest_version p.logs) p.common.map p.common.common number p.merger p.set here.merger.fits.one here.merger.within (p.transition p.common.map p.common.common);
+      gains = subst (λ text. Gains text before.out now.out) p.is found.gains;
     }

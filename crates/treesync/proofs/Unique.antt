@@ -8,10 +8,10 @@ use Rattle.sync_command.specs.Trees.{Holding, IsApplicable, Takes, command_at, o
 use Rattle.apply_model.specs.Entries.{store_of}
 use Rattle.apply_model.specs.Replays.{IsRefused}
 use Rattle.sync_path.specs.Paths.{Node, comes_before, parts, same_path}
-use Rattle.sync_path.proofs.CallerLemmas.{before_total, same_path_is}
+use Rattle.sync_path.proofs.CallerLemmas.{before_total, both, same_path_is, same_path_refl}
 use Rattle.sync_command.proofs.CallerLemmas.{canonical_unique, command_at-node}
 use Rattle.canon_set.specs.Sets.{canonical}
-use Rattle.canon_set.proofs.CallerLemmas.{command_at-canonical, is_canonical-canonical, one_each-canonical}
+use Rattle.canon_set.proofs.CallerLemmas.{command_at-canonical, is_canonical-canonical, net_fits, one_each-canonical}
 use Rattle.log_text.specs.Logs.{log_of, log_text}
 use Rattle.refluent.specs.CommonTrees.{AllChange, HasCommonTree}
 use Rattle.refluent.specs.Drawn.{drawn_commands}
@@ -31,16 +31,27 @@ use Rattle.sync_command.specs.declared.values.Version.{Version}
 use Rattle.log_text.specs.Snapshots.{snapshot_of}
 use Rattle.canon_set.specs.Logs.{IsBrokenAt, IsTaken, net}
 use Rattle.tool_words.specs.declared.job.Job.{Job}
-use Rattle.tool_words.specs.declared.job.Job.TheVariants.{Help, Replay, Canon, Merge, Transition, Steer}
+use Rattle.tool_words.specs.declared.job.Job.TheVariants.{Help, Replay, Canon, Conflicts, Merge, Transition, Steer, Seal, Apply, Drill}
 use Rattle.tool_words.specs.Jobs.{job_of}
 use Rattle.sync_port.specs.Ports.{Names}
 use Rattle.treesync.specs.Checks.{Check, IsOne, Judged, Next, Then}
 use Rattle.treesync.specs.Canon.{IsCanon, IsNet}
 use Rattle.treesync.specs.Joining.{AllTaken, AreTaken, EachTaken, IsFirstUntaken, IsJoined, IsLogs, commands_of, joint_version, left_after}
+use Rattle.refluent.specs.Joints.{Joined}
+use Rattle.tool_words.specs.Help.{help_text}
+use Rattle.treesync.specs.Conflicts.{AreClashes, IsConflicts, clash_lines}
+use Rattle.treesync.specs.Outputs.{AsText, ClashLines, WholeText}
+use Rattle.treesync.proofs.BrokenLogs.{broken_once, first_failing, not_broken, taken_prefix, taken_shorter, takes_prefix, takes_shorter}
+use Rattle.treesync.proofs.DrillSummaries.{one_drill_text}
+use Rattle.treesync.proofs.SealedOnce.{sealing_once}
+use Rattle.treesync.proofs.JointNodes.{one_joint}
+use Rattle.treesync.proofs.SameSets.{one_list, same_at}
 use Rattle.treesync.specs.Merge.{IsMerge, IsMergeOf, IsMerged, IsMergerText}
 use Rattle.treesync.specs.Preferences.{ArePreferences, RulesHold, preference_word, rule_refusal}
 use Rattle.treesync.specs.Transition.{IsTransition, IsTransitionOf, IsTransitioned, IsTransitionText}
 use Rattle.transition.proofs.CallerLemmas.{canonical_merger}
+use Rattle.treesync.specs.Drill.{IsDrill, IsDrillOf}
+use Rattle.treesync.specs.Seal.{IsSeal, IsSealedOver}
 use Rattle.treesync.specs.Steer.{IsNetSet, IsSteer, IsSteered, IsSteering, RefusesBy}
 use Rattle.treesync.proofs.HeldLogs.{all_change_held, held_logs, same_commands}
 use Rattle.treesync.proofs.OneVerdict.{one_verdict}
@@ -54,7 +65,11 @@ use Rattle.treesync.specs.Jobs.{IsAnswer, IsAnswerOf, IsJobAnswer}
 use Rattle.treesync.specs.Replay.{IsAfter, IsRefusedAt, IsReplay}
 use Rattle.treesync.specs.declared.refusal.Refusal.{Refusal}
 use Rattle.treesync.specs.declared.refusal.Refusal.TheVariants.{Found}
-use Rattle.treesync.specs.declared.refusal.Finding.TheVariants.{NoCommonTree, NoTree, NotTaken}
+use Rattle.treesync.specs.declared.refusal.Finding.TheVariants.{Blocked, Diverged, NoCommonTree, NoTree, NotTaken}
+use Rattle.treesync.specs.Apply.{IsApplied, IsAppliedTo, IsApply, IsSetOf}
+use Rattle.resume_apply.specs.Ready.{IsReady, is_ready_value}
+use Rattle.resume_apply.specs.Preparing.{IsBlocked, IsFirstBlocked, first_diverged}
+use Rattle.std.specs.Prelude.{if◌then◌else◌, is_none}
 
 -- ---- checks one after another
 
@@ -95,35 +110,7 @@ snapshot_one word name =
     then_one (IsFile FILE_LIMIT word name) (λ bytes. Judged (λ answer. answer ≡ text_answer word (snapshot_of (parts 10 bytes))))
     (file_one FILE_LIMIT word name) (λ bytes. named_one (text_answer word (snapshot_of (parts 10 bytes))))
 
--- ---- numbers of commands
-
--- what holds of every shorter prefix fails first at one number
-module _ (P : ℕ → Type 0) (shorter : (k l : ℕ) → k ≤ l → P l → P k) where
-  not_before : (i j : ℕ) → (P i → ⊥) → P (j - 1) → i < j → ⊥
-  not_before i j fails holds l = fails (shorter i (j - 1) (omega arith) holds)
-
-  first_failing : (i j : ℕ) → P (i - 1) → (P i → ⊥) → P (j - 1) → (P j → ⊥) → i ≡ j
-  first_failing i j holds_i fails_i holds_j fails_j =
-      let up : i < j → ⊥ = not_before i j fails_i holds_j in
-      let down : j < i → ⊥ = not_before j i fails_j holds_i in
-      omega arith
-
--- a tree that takes a log takes each prefix of it
-takes_prefix : (t : Holding) (k : ℕ) (cs : List Change) → Takes t cs → Takes t (take k cs)
-takes_prefix t zero cs takes = tt
-takes_prefix t (suc k) [] takes = tt
-takes_prefix t (suc k) (c ∷ cs) takes = (takes.0, takes_prefix (put t c.node c.new) k cs takes.1)
-
-takes_shorter : (t : Holding) (cs : List Change) (k l : ℕ) → k ≤ l → Takes t (take l cs) → Takes t (take k cs)
-takes_shorter t cs k l le takes = subst (Takes t) (take-take k l cs le) (takes_prefix t k (take l cs) takes)
-
 -- ---- the net set of a log
-
-taken_prefix : (k : ℕ) (cs : List Change) → IsTaken cs → IsTaken (take k cs)
-taken_prefix k cs taken = record { map = taken.map; tree = taken.tree; takes = takes_prefix (at taken.map) k cs taken.takes }
-
-taken_shorter : (cs : List Change) (k l : ℕ) → k ≤ l → IsTaken (take l cs) → IsTaken (take k cs)
-taken_shorter cs k l le taken = subst IsTaken (take-take k l cs le) (taken_prefix k (take l cs) taken)
 
 net_one : (word : ℕ) (log : ReadLog) → IsOne (Judged (IsNet word log))
 net_one word log held (Ok one) (Ok other) p q = ap Ok (p.1 ∙ sym q.1)
@@ -134,7 +121,7 @@ net_one word log held (Err r) (Err s) p q = ap Err (p.1 ∙ ap (λ n. Found (NoT
     same : p.0 ≡ q.0
     same = first_failing (λ k. IsTaken (take k log.commands)) (taken_shorter log.commands) p.0 q.0 p.2.2 p.2.3 q.2.2 q.2.3
 
-canon_one : (word : ℕ) (log : List ℕ) → IsOne (IsCanon word log)
+pub canon_one : (word : ℕ) (log : List ℕ) → IsOne (IsCanon word log)
 canon_one word log = then_one (IsLog FULL_ALLOWANCE word log) (λ read. Judged (IsNet word read)) (log_one FULL_ALLOWANCE word log) (net_one word)
 
 -- ---- the log on a snapshot's tree
@@ -168,7 +155,7 @@ after_one word (version, rows) log held (Err r) (Err s) p q = ap Err (p.1 ∙ ap
     same = first_failing (λ k. Takes (at (store_of rows)) (take k log.commands)) (takes_shorter (at (store_of rows)) log.commands) p.0 q.0
         p.2.1.0.taken (refused_there (store_of rows) log.commands p.0 p.2) q.2.1.0.taken (refused_there (store_of rows) log.commands q.0 q.2)
 
-replay_one : (snap_word : ℕ) (snap : List ℕ) (log_word : ℕ) (log : List ℕ) → IsOne (IsReplay snap_word snap log_word log)
+pub replay_one : (snap_word : ℕ) (snap : List ℕ) (log_word : ℕ) (log : List ℕ) → IsOne (IsReplay snap_word snap log_word log)
 replay_one snap_word snap log_word log =
     then_one (IsSnapshot snap_word snap) (λ snapshot. Then (IsLog FULL_ALLOWANCE log_word log) (λ read. Judged (IsAfter log_word snapshot read))) (snapshot_one snap_word snap) (λ snapshot.
     then_one (IsLog FULL_ALLOWANCE log_word log) (λ read. Judged (IsAfter log_word snapshot read)) (log_one FULL_ALLOWANCE log_word log) (after_one log_word snapshot))
@@ -191,17 +178,11 @@ next_one P Q first next one other (inr p) (inr q) =
 
 -- ---- the logs of a job
 
-logs_one : (left : Allowance) (files : List Operand) → IsOne (IsLogs left files)
+pub logs_one : (left : Allowance) (files : List Operand) → IsOne (IsLogs left files)
 logs_one left [] = named_one (Ok [])
 logs_one left (file ∷ files) =
     then_one (IsLog left file.place file.text) (λ read. Then (IsLogs (left_after left read) files) (λ reads. Judged (λ answer. answer ≡ Ok (read ∷ reads)))) (log_one left file.place file.text) (λ read.
     then_one (IsLogs (left_after left read) files) (λ reads. Judged (λ answer. answer ≡ Ok (read ∷ reads))) (logs_one (left_after left read) files) (λ reads. named_one (Ok (read ∷ reads))))
-
-broken_once : (cs : List Change) (i j : ℕ) → IsBrokenAt cs i → IsBrokenAt cs j → i ≡ j
-broken_once cs i j p q = first_failing (λ k. IsTaken (take k cs)) (taken_shorter cs) i j p.2 p.3 q.2 q.3
-
-not_broken : (cs : List Change) (number : ℕ) → IsBrokenAt cs number → IsTaken cs → ⊥
-not_broken cs number broken taken = broken.3 (taken_prefix number cs taken)
 
 untaken_not : (files : List Operand) (reads : List ReadLog) (r : Refusal) → IsFirstUntaken files reads r → AreTaken reads → ⊥
 untaken_not [] reads r h taken = h
@@ -264,7 +245,7 @@ all_taken_one reads (Err r) (Err s) p q = ap Err (p.3 ∙ (λ i. Found (NoCommon
         (subst (λ l. IsFirstDisagreement (commands_of reads) (q.0 - 1) l p.2) pair.1 (subst (λ k. IsFirstDisagreement (commands_of reads) k (p.1 - 1) p.2) pair.0 p.4.disagreement.disagreement))
         q.4.disagreement.disagreement
 
-joined_one : (files : List Operand) (reads : List ReadLog) → OneOf (IsJoined files reads)
+pub joined_one : (files : List Operand) (reads : List ReadLog) → OneOf (IsJoined files reads)
 joined_one files reads = next_one (EachTaken files reads) AllTaken (each_taken_one files reads) (λ taken h. all_taken_one taken)
 
 -- what was joined has a common tree
@@ -285,25 +266,6 @@ rules_one word rules reads (Ok one) (Ok other) p q = ap Ok (p.0 ∙ sym q.0)
 rules_one word rules reads (Ok one) (Err r) p q = absurd (cc (p.1, q.1))
 rules_one word rules reads (Err r) (Ok other) p q = absurd (cc (p.1, q.1))
 rules_one word rules reads (Err r) (Err s) p q = let same : p.0 ≡ q.0 = cc (p.1, q.1) in ap Err (p.2 ∙ ap (rule_refusal word) same ∙ sym q.2)
-
--- sets with the same commands, one a node, have the same one at each
-pub same_at : (cs ds : List Change) → one_each cs ≡ true → one_each ds ≡ true → HaveSameCommands cs ds → (p : Node) → command_at cs p ≡ command_at ds p
-same_at cs ds one other same p = here (command_at cs p) refl (command_at ds p) refl
-  where
-    -- a command of one set at a node is that of the other
-    there : (xs ys : List Change) → one_each ys ≡ true → IsSubset xs ys → (c : Change) → command_at xs p ≡ Some c → command_at ys p ≡ Some c
-    there xs ys once part c e = ap (command_at ys) (command_at-node xs p c e) ∙ at_from_in ys once c (part c (in_from_at xs p c e))
-
-    here : (o : Option Change) → command_at cs p ≡ o → (u : Option Change) → command_at ds p ≡ u → command_at cs p ≡ command_at ds p
-    here (Some c) e u f = e ∙ sym (there cs ds other same.0 c e)
-    here None e (Some d) f = there ds cs one same.1 d f ∙ sym f
-    here None e None f = e ∙ sym f
-
--- and one canonical list
-pub one_list : (cs ds : List Change) → one_each cs ≡ true → one_each ds ≡ true → HaveSameCommands cs ds → canonical cs ≡ canonical ds
-one_list cs ds one other same =
-    canonical_unique (canonical cs) (canonical ds) (is_canonical-canonical cs one) (is_canonical-canonical ds other) (one_each-canonical cs one) (one_each-canonical ds other)
-    (λ p. command_at-canonical cs one p ∙ same_at cs ds one other same p ∙ sym (command_at-canonical ds other p))
 
 merger_text_one : (rules : List Rule) (reads : List ReadLog) → HasCommonTree (commands_of reads) → OneOf (IsMergerText rules reads)
 merger_text_one rules reads common (Ok one) (Ok other) p q = ap Ok (p.2 ∙ ap (log_text (joint_version reads)) same ∙ sym q.2)
@@ -330,7 +292,7 @@ merge_of_one word rules files =
     then_one (IsLogs FULL_ALLOWANCE files) (λ reads. Judged (Next (IsJoined files reads) (IsMerged word rules))) (logs_one FULL_ALLOWANCE files) (λ reads.
     judged_one (Next (IsJoined files reads) (IsMerged word rules)) (next_one (IsJoined files reads) (IsMerged word rules) (joined_one files reads) (λ joined h. merged_one word rules joined (has_common files reads joined h))))
 
-merge_one : (prefs : Option Operand) (files : List Operand) → IsOne (IsMerge prefs files)
+pub merge_one : (prefs : Option Operand) (files : List Operand) → IsOne (IsMerge prefs files)
 merge_one prefs files =
     then_one (ArePreferences prefs) (λ rules. IsMergeOf (preference_word prefs) rules files) (preferences_one prefs) (λ rules. merge_of_one (preference_word prefs) rules files)
 
@@ -378,7 +340,7 @@ all_change_read held left files reads h =
     let found = held_logs held left files reads h in
     subst AllChange (sym (ap commands_of found.same ∙ same_commands found.logs)) (all_change_held held files found.logs found.texts)
 
-steer_one : (file : Operand) (files : List Operand) → IsOne (IsSteer file files)
+pub steer_one : (file : Operand) (files : List Operand) → IsOne (IsSteer file files)
 steer_one file files =
     then_one (IsLog FULL_ALLOWANCE file.place file.text) (λ (read : ReadLog). Then (IsLogs FULL_ALLOWANCE files) (λ reads. Judged (IsSteering file.place files read reads))) (log_one FULL_ALLOWANCE file.place file.text) (λ read.
     then_one_after (IsLogs FULL_ALLOWANCE files) (λ reads. Judged (IsSteering file.place files read reads)) (logs_one FULL_ALLOWANCE files) (λ held reads h.
@@ -417,23 +379,126 @@ transition_of_one number word rules files =
     then_one (IsLogs FULL_ALLOWANCE files) (λ reads. Judged (Next (IsJoined files reads) (IsTransitioned number word rules))) (logs_one FULL_ALLOWANCE files) (λ reads.
     judged_one (Next (IsJoined files reads) (IsTransitioned number word rules)) (next_one (IsJoined files reads) (IsTransitioned number word rules) (joined_one files reads) (λ joined h. transitioned_one number word rules joined (has_common files reads joined h))))
 
-transition_one : (number : ℕ) (prefs : Option Operand) (files : List Operand) → IsOne (IsTransition number prefs files)
+pub transition_one : (number : ℕ) (prefs : Option Operand) (files : List Operand) → IsOne (IsTransition number prefs files)
 transition_one number prefs files =
     then_one (ArePreferences prefs) (λ rules. IsTransitionOf number (preference_word prefs) rules files) (preferences_one prefs) (λ rules. transition_of_one number (preference_word prefs) rules files)
 
+-- ---- a set that is applied to a tree
+
+pub set_one : (file : Operand) → IsOne (IsSetOf file)
+set_one file =
+    then_one (IsLog FULL_ALLOWANCE file.place file.text) (λ (read : ReadLog). Judged (IsNetSet file.place read)) (log_one FULL_ALLOWANCE file.place file.text) (λ read.
+    judged_one (IsNetSet file.place read) (net_set_one file.place read))
+
+one_set_read : (word : ℕ) (read : ReadLog) (set : List Change) → IsNetSet word read (Ok set) → one_each set ≡ true
+one_set_read word read set h =
+    ap one_each h.1 ∙ one_each-canonical (net read.commands) (net_fits (at h.0.map) read.commands h.0.tree.tree h.0.takes).0.one
+
+one_set : (file : Operand) (held : Names) (set : List Change) → IsSetOf file held false (Ok set) → one_each set ≡ true
+one_set file held set (inl h) = absurd (ok_not_err h.2)
+one_set file held set (inr h) = one_set_read file.place h.0 set h.2
+
+-- a node that holds none of the values of ready
+not_diverged : (set : List Change) (t : Holding) (p : Node) → one_each set ≡ true → ((q : Node) (c : Change) → command_at set q ≡ Some c → is_ready_value c (t q) ≡ true) → first_diverged set t ≡ Some p → ⊥
+not_diverged [] t p one values e = absurd (cc)
+not_diverged (c ∷ set) t p one values e =
+    not_diverged set t p rest_one.1 (λ q d f. values q d (later q d f)) (sym (ap (λ b. if b then first_diverged set t else Some c.node) here) ∙ e)
+  where
+    rest_one : (is_none (command_at set c.node) ≡ true) × (one_each set ≡ true)
+    rest_one = both (is_none (command_at set c.node)) (one_each set) one
+
+    here : is_ready_value c (t c.node) ≡ true
+    here = values c.node c (ap (λ b. if b then Some c else command_at set c.node) (same_path_refl c.node))
+
+    none_not : (o : Option Change) (d : Change) → is_none o ≡ true → o ≡ Some d → ⊥
+    none_not None d n e = absurd (cc)
+    none_not (Some x) d n e = absurd (cc)
+
+    later : (q : Node) (d : Change) → command_at set q ≡ Some d → command_at (c ∷ set) q ≡ Some d
+    later q d f = by (same_path q c.node) refl
+      where
+        by : (b : Bool) → same_path q c.node ≡ b → (if b then Some c else command_at set q) ≡ Some d
+        by true s = absurd (none_not (command_at set c.node) d rest_one.0 (sym (ap (command_at set) (same_path_is q c.node s)) ∙ f))
+        by false s = f
+
+one_blocked : (set : List Change) (t : Holding) (p q : Node) → IsFirstBlocked set t p → IsFirstBlocked set t q → p ≡ q
+one_blocked set t p q a b = go (same_path p q) refl (comes_before p q) refl
+  where
+    go : (s : Bool) → same_path p q ≡ s → (e : Bool) → comes_before p q ≡ e → p ≡ q
+    go true s e f = same_path_is p q s
+    go false s true f = let no = b.first p a.blocked in absurd (cc (no, f))
+    go false s false f = let no = a.first q b.blocked in let yes = before_total p q s f in absurd (cc (no, yes))
+
+applied_one : (word : ℕ) (set : List Change) (m : Store) → one_each set ≡ true → OneOf (IsAppliedTo word set m)
+applied_one word set m one (Ok text) (Ok other) p q = ap Ok (p.1 ∙ sym q.1)
+applied_one word set m one (Ok text) (Err r) p (inl q) = absurd (not_diverged set (at m) q.0 one p.0.values q.2)
+applied_one word set m one (Ok text) (Err r) p (inr q) = absurd (not_blocked p.0 q.3.blocked)
+  where
+    not_blocked : IsReady (at m) set → IsBlocked set (at m) q.0 → ⊥
+    not_blocked ready b = let dir = ready.tree b.above q.0 b.parent_is b.full in absurd (cc (dir, b.no_dir))
+applied_one word set m one (Err r) (Ok other) (inl p) q = absurd (not_diverged set (at m) p.0 one q.0.values p.2)
+applied_one word set m one (Err r) (Ok other) (inr p) q = absurd (not_blocked q.0 p.3.blocked)
+  where
+    not_blocked : IsReady (at m) set → IsBlocked set (at m) p.0 → ⊥
+    not_blocked ready b = let dir = ready.tree b.above p.0 b.parent_is b.full in absurd (cc (dir, b.no_dir))
+applied_one word set m one (Err r) (Err s) (inl p) (inl q) = let same : p.0 ≡ q.0 = cc (p.2, q.2) in ap Err (p.1 ∙ ap (λ x. Found (Diverged word x)) same ∙ sym q.1)
+applied_one word set m one (Err r) (Err s) (inl p) (inr q) = absurd (cc (p.2, q.2))
+applied_one word set m one (Err r) (Err s) (inr p) (inl q) = absurd (cc (p.2, q.2))
+applied_one word set m one (Err r) (Err s) (inr p) (inr q) = ap Err (p.1 ∙ ap (λ x. Found (Blocked word x)) (one_blocked set (at m) p.0 q.0 p.3 q.3) ∙ sym q.1)
+
+pub apply_one : (folder file : Operand) (m : Store) → IsOne (IsApply folder file (Some m))
+apply_one folder file m =
+    then_one_after (IsSetOf file) (IsApplied folder.place (Some m)) (set_one file) (λ held set s. applied_one folder.place set m (one_set file held set s))
+
+-- ---- the clashes of logs
+
+clashes_one : (reads : List ReadLog) → OneOf (AreClashes reads)
+clashes_one reads (Ok one) (Ok other) p q = ap Ok (p.2 ∙ ap (λ (joint : Joined). ClashLines (clash_lines joint)) (one_joint p.0 q.0 (commands_of reads) p.1 q.1) ∙ sym q.2)
+clashes_one reads (Ok one) (Err r) p q = absurd q
+clashes_one reads (Err r) other p q = absurd p
+
+conflicts_one : (files : List Operand) → IsOne (IsConflicts files)
+conflicts_one files =
+    then_one (IsLogs FULL_ALLOWANCE files) (λ reads. Judged (Next (IsJoined files reads) AreClashes)) (logs_one FULL_ALLOWANCE files) (λ reads.
+    judged_one (Next (IsJoined files reads) AreClashes) (next_one (IsJoined files reads) AreClashes (joined_one files reads) (λ joined h. clashes_one joined)))
+
+-- ---- a log that is sealed
+
+pub seal_one : (folder file : Operand) (m : Store) → IsOne (IsSeal folder file (Some m))
+seal_one folder file m =
+    then_one (IsFile FILE_LIMIT file.place file.text) (IsSealedOver folder.place file.place (Some m)) (file_one FILE_LIMIT file.place file.text) (λ text held. sealing_once folder.place file.place m text)
+
+-- ---- a drill
+
+drill_of_one : (seed logs steps : ℕ) → OneOf (IsDrillOf seed logs steps)
+drill_of_one seed logs steps (Ok text) (Ok other) p q = ap Ok (one_drill_text seed logs steps text other p q)
+drill_of_one seed logs steps (Ok text) (Err r) p q = absurd q
+drill_of_one seed logs steps (Err r) other p q = absurd p
+
+drill_one : (seed logs steps : ℕ) → IsOne (IsDrill seed logs steps)
+drill_one seed logs steps = judged_one (IsDrillOf seed logs steps) (drill_of_one seed logs steps)
+
 -- ---- the answer of words
 
-job_one : (job : Job) → IsOne (IsJobAnswer job)
-job_one Help = named_one _
-job_one (Replay snap log) = replay_one snap.place snap.text log.place log.text
-job_one (Canon log) = canon_one log.place log.text
-job_one (Merge prefs logs) = merge_one prefs logs
-job_one (Transition number prefs logs) = transition_one number prefs logs
-job_one (Steer set logs) = steer_one set logs
+pub text_one : (P : Check (List ℕ)) → IsOne P → IsOne (AsText P)
+text_one P one = then_one P (λ text. Judged (λ answer. answer ≡ Ok (WholeText text))) one (λ text. named_one (Ok (WholeText text)))
 
-answer_of_one : (job : Option Job) → IsOne (IsAnswerOf job)
-answer_of_one None = named_one _
-answer_of_one (Some job) = job_one job
+-- the answer of a job, where its tree is known or it has none
+pub job_one : (job : Job) (tree : Store) → IsOne (IsJobAnswer job (Some tree))
+job_one Help tree = text_one (Judged (λ answer. answer ≡ Ok help_text)) (named_one _)
+job_one (Replay snap log) tree = text_one (IsReplay snap.place snap.text log.place log.text) (replay_one snap.place snap.text log.place log.text)
+job_one (Canon log) tree = text_one (IsCanon log.place log.text) (canon_one log.place log.text)
+job_one (Conflicts logs) tree = conflicts_one logs
+job_one (Merge prefs logs) tree = text_one (IsMerge prefs logs) (merge_one prefs logs)
+job_one (Transition number prefs logs) tree = text_one (IsTransition number prefs logs) (transition_one number prefs logs)
+job_one (Steer set logs) tree = text_one (IsSteer set logs) (steer_one set logs)
+job_one (Seal folder log) tree = text_one (IsSeal folder log (Some tree)) (seal_one folder log tree)
+job_one (Apply folder set) tree = text_one (IsApply folder set (Some tree)) (apply_one folder set tree)
+job_one (Drill seed logs steps) tree = text_one (IsDrill seed logs steps) (drill_one seed logs steps)
 
-pub answer_one : (words : List (List ℕ)) → IsOne (IsAnswer words)
-answer_one words = answer_of_one (job_of words)
+answer_of_one : (job : Option Job) (tree : Store) → IsOne (IsAnswerOf job (Some tree))
+answer_of_one None tree = named_one _
+answer_of_one (Some job) tree = job_one job tree
+
+pub answer_one : (words : List (List ℕ)) (tree : Store) → IsOne (IsAnswer words (Some tree))
+answer_one words tree = answer_of_one (job_of words) tree

@@ -1,120 +1,335 @@
 -- What finding the answer of words owes, and how a run ends.
-use Rattle.std.proofs.Common.{◌≡◌, ◌⊎◌, ◌≤◌, ℕ, List, Option, Result, None, Some, Ok, Err, Vec, Global, inl, inr, refl, sym, ap, subst, arith}
-use Rattle.sync_port.specs.States.{FaultCounted, IfBoth}
+use Rattle.std.proofs.Common.{◌≡◌, ◌⊎◌, ◌≤◌, ℕ, List, [], ◌∷◌, length, map, Option, Result, None, Some, Ok, Err, Vec, Global, inl, inr, refl, sym, ap, subst, ◌∙◌, arith}
+use Rattle.sync_command.specs.Maps.{Store}
+use Rattle.sync_port.specs.States.{IfBoth}
 use Rattle.sync_port.specs.Ports.{FileContents, FilesState, SinkState}
 use Rattle.tool_words.specs.declared.job.Job.{Job}
-use Rattle.treesync.specs.Checks.{Answers, Check, HasItems, IsAllowed, IsAllowedOf, IsOfJob, ReadsFiles, seen}
+use Rattle.tool_words.specs.declared.job.Job.TheVariants.{Help, Replay, Canon, Conflicts, Merge, Transition, Steer, Seal, Apply, Drill}
+use Rattle.treesync.specs.Answering.{StandsForOutput, of_text, output_of}
+use Rattle.treesync.specs.Checks.{Answers, Causes, Check, FilesCounted, HasItems, IsAllowed, IsAllowedOf, IsOfJob, ReadsFiles, Unless, seen}
+use Rattle.treesync.specs.Apply.{IsApply}
+use Rattle.treesync.specs.Seal.{IsSeal}
 use Rattle.treesync.specs.Ends.{Prints}
-use Rattle.treesync.specs.Jobs.{Finds, IsAnswerOf, IsJobAnswer, limits_of, limits_of_words}
-use Rattle.treesync.specs.Messages.{finding_status, status_of}
-use Rattle.treesync.proofs.CheckLemmas.{memory_alone, reads_nothing}
+use Rattle.tree_port.specs.States.{NoneFell, TreeState}
+use Rattle.tool_words.specs.Jobs.{job_of}
+use Rattle.tool_words.specs.Trees.{asked_folders, folder_places, job_folders}
+use Rattle.tool_words.specs.Words.{Operand, Text, places_of}
+use Rattle.treesync.specs.Jobs.{Finds, FindsFrom, FindsJob, Inputs, InputsCounted, IsAnswerOf, IsJobAnswer, LeavesTrees, LeavesTreesOf, NoTreeFell, held_tree, limits_of, limits_of_words}
+use Rattle.treesync.specs.Messages.{failure_status, finding_status, status_of}
+use Rattle.treesync.specs.Outputs.{AsText, Output, WholeText, status_in}
+use Rattle.treesync.specs.declared.answer.Answer.{Answer}
+use Rattle.treesync.specs.declared.answer.Answer.TheVariants.{Text as TextAnswer}
+use Rattle.treesync.proofs.OutputLemmas.{Three, low_status, text_allowed, three, whole_status}
+use Rattle.treesync.proofs.Applying.{IsAlike, applied_alike, applied_fell}
+use Rattle.treesync.proofs.Sealing.{looked_alike, looked_fell}
+use Rattle.treesync.proofs.CheckLemmas.{allowed_more, memory_allowed, reads_nothing}
 use Rattle.treesync.specs.declared.refusal.Refusal.{Refusal}
+use Rattle.treesync.specs.declared.refusal.Failure.{Failure}
+use Rattle.treesync.specs.declared.refusal.Failure.TheVariants.{ReadFailed, TreeFailed, TreeDenied}
 use Rattle.treesync.specs.declared.refusal.Finding.{Finding}
-use Rattle.treesync.specs.declared.refusal.Refusal.TheVariants.{InvalidArguments, OutOfMemory, ReadFailed, Found}
+use Rattle.treesync.specs.declared.refusal.Refusal.TheVariants.{InvalidArguments, OutOfMemory, CallFailed, Found}
 
 -- ---- finding the answer
 
-abbrev pub Answer : Type 0
-Answer = Result (Vec ℕ Global) Refusal
+abbrev pub Outcome : Type 0
+Outcome = Result Answer Refusal
 
--- the text of an answer
-abbrev pub seen_text : Answer → Result (List ℕ) Refusal
-seen_text found = seen (λ text. text.items) found
+-- what is printed of it
+abbrev pub seen_output : Outcome → Result Output Refusal
+seen_output found = seen output_of found
 
-abbrev pub FindsText : Option Job → FilesState → FilesState → Answer → Type 0
-FindsText words before now found = Finds HasItems words before now found
+abbrev pub FindsOutput : Option Job → Inputs → Inputs → Outcome → Type 0
+FindsOutput words before now found = Finds StandsForOutput words before now found
 
 -- the answer of the job that the words are is that of the words
-pub found_job : (job : Job) (words : Option Job) (before now : FilesState) (found : Answer) → words ≡ Some job →
-    Answers HasItems (IsJobAnswer job) (limits_of job) before now found → FindsText words before now found
-found_job job words before now found e a = subst (λ w. FindsText w before now found) (sym e) a
+pub found_job : (job : Job) (words : Option Job) (before now : Inputs) (found : Outcome) → words ≡ Some job →
+    FindsJob StandsForOutput job before now found → FindsOutput words before now found
+found_job job words before now found e a = subst (λ w. FindsOutput w before now found) (sym e) a
 
-pub no_job : (words : Option Job) (state : FilesState) → words ≡ None → FindsText words state state (Err InvalidArguments)
-no_job words state e = subst (λ w. FindsText w state state (Err InvalidArguments)) (sym e) (inl refl, refl)
+pub no_job : (words : Option Job) (state : Inputs) → words ≡ None → FindsOutput words state state (Err InvalidArguments)
+no_job words state e = subst (λ w. FindsOutput w state state (Err InvalidArguments)) (sym e) (inl refl, refl)
 
-pub no_memory : (words : Option Job) (state : FilesState) → FindsText words state state (Err OutOfMemory)
+-- the trees of a job stay where it is refused, and those of a job that has none
+still_refused : (job : Job) (files : Option FileContents) (r : Refusal) (trees : List TreeState) → LeavesTrees {X = Answer} job files (Err r) trees trees
+still_refused (Apply folder file) files r trees = inl (refl, tt)
+still_refused (Seal folder file) files r trees = inl refl
+still_refused Help files r trees = refl
+still_refused (Replay snap log) files r trees = refl
+still_refused (Canon log) files r trees = refl
+still_refused (Conflicts logs) files r trees = refl
+still_refused (Merge prefs logs) files r trees = refl
+still_refused (Transition number prefs logs) files r trees = refl
+still_refused (Steer set logs) files r trees = refl
+still_refused (Drill seed logs steps) files r trees = refl
+
+pub memory_found : (job : Job) (state : Inputs) → FindsJob {X = Answer} StandsForOutput job state state (Err OutOfMemory)
+memory_found job state = record {
+  later = omega arith;
+  quiet = tt;
+  reads = reads_nothing (limits_of job) state.files.contents;
+  allowed = memory_allowed (IsJobAnswer job (held_tree state.trees)) (InputsCounted state state) state.files.contents;
+  of_job = tt;
+  trees = still_refused job state.files.contents OutOfMemory state.trees;
+}
+
+pub no_memory : (words : Option Job) (state : Inputs) → FindsOutput words state state (Err OutOfMemory)
 no_memory None state = (inr refl, refl)
-no_memory (Some job) state = memory_alone HasItems (IsJobAnswer job) (limits_of job) state
+no_memory (Some job) state = memory_found job state
+
+-- ---- a job without trees
+
+stays : (job : Job) (files : Option FileContents) (found : Outcome) (trees : List TreeState) → job_folders job ≡ [] → LeavesTrees job files found trees trees
+stays (Apply folder file) files found trees empty = absurd (cc)
+stays (Seal folder file) files found trees empty = absurd (cc)
+stays Help files found trees empty = refl
+stays (Replay snap log) files found trees empty = refl
+stays (Canon log) files found trees empty = refl
+stays (Conflicts logs) files found trees empty = refl
+stays (Merge prefs logs) files found trees empty = refl
+stays (Transition number prefs logs) files found trees empty = refl
+stays (Steer set logs) files found trees empty = refl
+stays (Drill seed logs steps) files found trees empty = refl
+
+pub files_among_inputs : (before now : Inputs) (failure : Failure) → FilesCounted before.files now.files failure → InputsCounted before now failure
+files_among_inputs before now (ReadFailed word) h = h
+files_among_inputs before now (TreeFailed word) h = absurd h
+files_among_inputs before now (TreeDenied word) h = absurd h
+
+-- what a job owes that reads files alone
+pub files_found : (job : Job) (before now : FilesState) (trees : List TreeState) (found : Outcome) → job_folders job ≡ [] →
+    Answers StandsForOutput (IsJobAnswer job (held_tree trees)) (limits_of job) before now found → FindsJob StandsForOutput job (record { files = before; trees = trees }) (record { files = now; trees = trees }) found
+files_found job before now trees found empty a = record {
+  later = a.later;
+  quiet = a.quiet;
+  reads = a.reads;
+  allowed = allowed_more StandsForOutput (IsJobAnswer job (held_tree trees)) (FilesCounted before now) _ before.contents found (files_among_inputs (record { files = before; trees = trees }) (record { files = now; trees = trees })) a.allowed;
+  of_job = a.job;
+  trees = stays job before.contents found trees empty;
+}
 
 -- ---- what was found
 
 -- nothing was called, and the words or memory are to blame
-none_allowed : (counted : Type 0) (known : Option FileContents) (found : Answer) → (found ≡ Err InvalidArguments) ⊎ (found ≡ Err OutOfMemory) →
-    IsAllowed (IsAnswerOf None) known counted (seen_text found)
-none_allowed counted known found (inl e) = subst (λ f. IsAllowed (IsAnswerOf None) known counted (seen_text f)) (sym e) (by known)
+none_allowed : (counted : Causes) (tree : Option Store) (known : Option FileContents) (found : Outcome) → (found ≡ Err InvalidArguments) ⊎ (found ≡ Err OutOfMemory) →
+    IsAllowed (IsAnswerOf None tree) known counted (seen_output found)
+none_allowed counted tree known found (inl e) = subst (λ f. IsAllowed (IsAnswerOf None tree) known counted (seen_output f)) (sym e) (by known)
   where
-    by : (known : Option FileContents) → IsAllowed (IsAnswerOf None) known counted (Err InvalidArguments)
+    by : (known : Option FileContents) → IsAllowed (IsAnswerOf None tree) known counted (Err InvalidArguments)
     by None = tt
     by (Some m) = refl
-none_allowed counted known found (inr e) = subst (λ f. IsAllowed (IsAnswerOf None) known counted (seen_text f)) (sym e) (by known)
+none_allowed counted tree known found (inr e) = subst (λ f. IsAllowed (IsAnswerOf None tree) known counted (seen_output f)) (sym e) (by known)
   where
-    by : (known : Option FileContents) → IsAllowed (IsAnswerOf None) known counted (Err OutOfMemory)
+    by : (known : Option FileContents) → IsAllowed (IsAnswerOf None tree) known counted (Err OutOfMemory)
     by None = tt
     by (Some m) = tt
 
--- the text that stands for an answer is its own
-seen_allowed : (P : Check (List ℕ)) (known : Option FileContents) (counted : Type 0) (found : Answer) → IsAllowedOf HasItems P known counted found → IsAllowed P known counted (seen_text found)
+-- the output that an answer stands for is its own
+seen_allowed : (P : Check Output) (known : Option FileContents) (counted : Causes) (found : Outcome) → IsAllowedOf StandsForOutput P known counted found → IsAllowed P known counted (seen_output found)
 seen_allowed P known counted (Ok text) h = subst (λ a. IsAllowed P known counted (Ok a)) (sym h.1) h.2
 seen_allowed P known counted (Err r) h = h
 
-pub found_allowed : (words : Option Job) (before now : FilesState) (found : Answer) → FindsText words before now found →
-    IsAllowed (IsAnswerOf words) before.contents (FaultCounted before now) (seen_text found)
-found_allowed None before now found f = none_allowed (FaultCounted before now) before.contents found f.0
-found_allowed (Some job) before now found f = seen_allowed (IsJobAnswer job) before.contents (FaultCounted before now) found f.allowed
+pub found_allowed : (words : Option Job) (before now : Inputs) (found : Outcome) → FindsOutput words before now found →
+    IsAllowed (IsAnswerOf words (held_tree before.trees)) before.files.contents (InputsCounted before now) (seen_output found)
+found_allowed None before now found f = none_allowed (InputsCounted before now) (held_tree before.trees) before.files.contents found f.0
+found_allowed (Some job) before now found f = seen_allowed (IsJobAnswer job (held_tree before.trees)) before.files.contents (InputsCounted before now) found f.allowed
 
-pub found_later : (words : Option Job) (before now : FilesState) (found : Answer) → FindsText words before now found → before.faults ≤ now.faults
-found_later None before now found f = omega (arith, ap (λ s. s.faults) f.1)
+-- what becomes of the trees does not depend on the value of an answer
+pub trees_alike : {X Y : Type 0} (job : Job) (files : Option FileContents) (found : Result X Refusal) (other : Result Y Refusal) (trees later : List TreeState) → IsAlike found other → LeavesTrees job files found trees later → LeavesTrees job files other trees later
+trees_alike (Apply folder file) files found other trees later same h = applied_alike file files found other trees later same h
+trees_alike (Seal folder file) files found other trees later same h = looked_alike found other trees later same h
+trees_alike Help files found other trees later same h = h
+trees_alike (Replay snap log) files found other trees later same h = h
+trees_alike (Canon log) files found other trees later same h = h
+trees_alike (Conflicts logs) files found other trees later same h = h
+trees_alike (Merge prefs logs) files found other trees later same h = h
+trees_alike (Transition number prefs logs) files found other trees later same h = h
+trees_alike (Steer set logs) files found other trees later same h = h
+trees_alike (Drill seed logs steps) files found other trees later same h = h
+
+seen_alike : (found : Outcome) → IsAlike found (seen_output found)
+seen_alike (Ok answer) = tt
+seen_alike (Err r) = refl
+
+pub found_trees : (words : Option Job) (before now : Inputs) (found : Outcome) → FindsOutput words before now found → LeavesTreesOf words before.files.contents (seen_output found) before.trees now.trees
+found_trees None before now found f = ap (λ s. s.trees) f.1
+found_trees (Some job) before now found f = trees_alike job before.files.contents found (seen_output found) before.trees now.trees (seen_alike found) f.trees
+
+none_fell : (trees : List TreeState) → NoTreeFell trees trees
+none_fell [] = tt
+none_fell (tree ∷ trees) = (record { faults = omega arith; denials = omega arith; out_of_memory = omega arith; changes = omega arith }, none_fell trees)
+
+same_fell : (trees later : List TreeState) → later ≡ trees → NoTreeFell trees later
+same_fell trees later e = subst (NoTreeFell trees) (sym e) (none_fell trees)
+
+pub trees_later : (words : Option Job) (files : Option FileContents) (answer : Result Output Refusal) (trees later : List TreeState) → LeavesTreesOf words files answer trees later → NoTreeFell trees later
+trees_later None files answer trees later h = same_fell trees later h
+trees_later (Some (Apply folder file)) files answer trees later (inl h) = same_fell trees later h.0
+trees_later (Some (Apply folder file)) files answer trees later (inr h) = applied_fell file files answer trees later h
+trees_later (Some (Seal folder file)) files answer trees later (inl h) = same_fell trees later h
+trees_later (Some (Seal folder file)) files answer trees later (inr h) = looked_fell answer trees later h
+trees_later (Some Help) files answer trees later h = same_fell trees later h
+trees_later (Some (Replay snap log)) files answer trees later h = same_fell trees later h
+trees_later (Some (Canon log)) files answer trees later h = same_fell trees later h
+trees_later (Some (Conflicts logs)) files answer trees later h = same_fell trees later h
+trees_later (Some (Merge prefs logs)) files answer trees later h = same_fell trees later h
+trees_later (Some (Transition number prefs logs)) files answer trees later h = same_fell trees later h
+trees_later (Some (Steer set logs)) files answer trees later h = same_fell trees later h
+trees_later (Some (Drill seed logs steps)) files answer trees later h = same_fell trees later h
+
+pub found_later : (words : Option Job) (before now : Inputs) (found : Outcome) → FindsOutput words before now found → before.files.faults ≤ now.files.faults
+found_later None before now found f = omega (arith, ap (λ s. s.files.faults) f.1)
 found_later (Some job) before now found f = f.later
 
-pub found_reads : (words : Option Job) (before now : FilesState) (found : Answer) → FindsText words before now found → IfBoth before.contents now.contents (ReadsFiles (limits_of_words words))
-found_reads None before now found f = subst (λ s. IfBoth before.contents s.contents (ReadsFiles (limits_of_words None))) (sym f.1) (reads_nothing (limits_of_words None) before.contents)
+pub found_reads : (words : Option Job) (before now : Inputs) (found : Outcome) → FindsOutput words before now found → IfBoth before.files.contents now.files.contents (ReadsFiles (limits_of_words words))
+found_reads None before now found f = subst (λ s. IfBoth before.files.contents s.files.contents (ReadsFiles (limits_of_words None))) (sym f.1) (reads_nothing (limits_of_words None) before.files.contents)
 found_reads (Some job) before now found f = f.reads
 
 -- ---- statuses
 
--- no finding has a status of the other refusals, or of a text that was printed
+-- no finding has a status of the other refusals, or of an output that was printed
 pub finding_above : (finding : Finding) → 5 ≤ finding_status finding
 finding_above finding = grind arith
 
--- a status of a text, or of a refusal that a job has
-not_two : (found : Answer) (status : ℕ) (a b : SinkState) → IsOfJob found → Prints (seen_text found) status a b → status ≡ 2 → ⊥
-not_two (Ok text) status a b h (inl z, t) e = omega (arith, z.0)
-not_two (Ok text) status a b h (inr z, t) e = omega (arith, z.0)
+pub failure_above : (failure : Failure) → 3 ≤ failure_status failure
+failure_above failure = grind arith
+
+-- a status of an output, or of a refusal that a job has
+not_two : (found : Outcome) (status : ℕ) (a b : SinkState) → IsOfJob found → Prints (seen_output found) status a b → status ≡ 2 → ⊥
+not_two (Ok answer) status a b h p e = by (three (output_of answer) status a b p.0) (low_status (output_of answer))
+  where
+    by : Three (output_of answer) status a b → status_in (output_of answer) ≤ 1 → ⊥
+    by (inl z) low = omega (arith, z.0)
+    by (inr (inl z)) low = omega (arith, z.0)
+    by (inr (inr z)) low = omega (arith, z.0)
 not_two (Err InvalidArguments) status a b h p e = h
 not_two (Err OutOfMemory) status a b h p e = omega (arith, p.0)
-not_two (Err (ReadFailed word)) status a b h p e = omega (arith, p.0)
+not_two (Err (CallFailed failure)) status a b h p e = omega (arith, p.0, failure_above failure)
 not_two (Err (Found finding)) status a b h p e = omega (arith, p.0, finding_above finding)
 
 -- status 2 means that the words are no job
-pub refused_means : (words : Option Job) (before now : FilesState) (found : Answer) (status : ℕ) (a b : SinkState) →
-    FindsText words before now found → Prints (seen_text found) status a b → status ≡ 2 → words ≡ None
+pub refused_means : (words : Option Job) (before now : Inputs) (found : Outcome) (status : ℕ) (a b : SinkState) →
+    FindsOutput words before now found → Prints (seen_output found) status a b → status ≡ 2 → words ≡ None
 refused_means None before now found status a b f p e = refl
-refused_means (Some job) before now found status a b f p e = absurd (not_two found status a b f.job p e)
+refused_means (Some job) before now found status a b f p e = absurd (not_two found status a b f.of_job p e)
 
 -- and invalid arguments have status 2 or 16
-none_status : (found : Answer) (status : ℕ) (a b : SinkState) → (found ≡ Err InvalidArguments) ⊎ (found ≡ Err OutOfMemory) → Prints (seen_text found) status a b → (status ≡ 2) ⊎ (status ≡ 16)
-none_status found status a b (inl e) p = inl ((subst (λ f. Prints (seen_text f) status a b) e p).0)
-none_status found status a b (inr e) p = inr ((subst (λ f. Prints (seen_text f) status a b) e p).0)
+none_status : (found : Outcome) (status : ℕ) (a b : SinkState) → (found ≡ Err InvalidArguments) ⊎ (found ≡ Err OutOfMemory) → Prints (seen_output found) status a b → (status ≡ 2) ⊎ (status ≡ 16)
+none_status found status a b (inl e) p = inl ((subst (λ f. Prints (seen_output f) status a b) e p).0)
+none_status found status a b (inr e) p = inr ((subst (λ f. Prints (seen_output f) status a b) e p).0)
 
-pub no_job_means : (words : Option Job) (before now : FilesState) (found : Answer) (status : ℕ) (a b : SinkState) →
-    FindsText words before now found → Prints (seen_text found) status a b → words ≡ None → (status ≡ 2) ⊎ (status ≡ 16)
-no_job_means words before now found status a b f p e = none_status found status a b (subst (λ w. FindsText w before now found) e f).0 p
+pub no_job_means : (words : Option Job) (before now : Inputs) (found : Outcome) (status : ℕ) (a b : SinkState) →
+    FindsOutput words before now found → Prints (seen_output found) status a b → words ≡ None → (status ≡ 2) ⊎ (status ≡ 16)
+no_job_means words before now found status a b f p e = none_status found status a b (subst (λ w. FindsOutput w before now found) e f).0 p
 
--- with status 0 a text was found and printed, and no call failed
-done_found : (found : Answer) (status : ℕ) (a b : SinkState) → Prints (seen_text found) status a b → status ≡ 0 → ((text : Vec ℕ Global) × (found ≡ Ok text)) × (b.faults ≡ a.faults)
-done_found (Ok text) status a b (inl z, t) e = ((text, refl), z.1)
-done_found (Ok text) status a b (inr z, t) e = absurd (omega (arith, z.0))
-done_found (Err InvalidArguments) status a b p e = absurd (omega (arith, p.0))
-done_found (Err OutOfMemory) status a b p e = absurd (omega (arith, p.0))
-done_found (Err (ReadFailed word)) status a b p e = absurd (omega (arith, p.0))
-done_found (Err (Found finding)) status a b p e = absurd (omega (arith, p.0, finding_above finding))
+-- with the status of a whole output one was found and printed, and no call failed
+done_found : (found : Outcome) (status : ℕ) (a b : SinkState) → Prints (seen_output found) status a b → status ≤ 1 → ((answer : Answer) × (found ≡ Ok answer)) × (b.faults ≡ a.faults)
+done_found (Ok answer) status a b p e = ((answer, refl), (whole_status (output_of answer) status a b e p.0).1)
+done_found (Err InvalidArguments) status a b p e = absurd (omega (arith, p.0, e))
+done_found (Err OutOfMemory) status a b p e = absurd (omega (arith, p.0, e))
+done_found (Err (CallFailed failure)) status a b p e = absurd (omega (arith, p.0, e, failure_above failure))
+done_found (Err (Found finding)) status a b p e = absurd (omega (arith, p.0, e, finding_above finding))
 
-quiet_text : (words : Option Job) (before now : FilesState) (text : Vec ℕ Global) → FindsText words before now (Ok text) → now.faults ≡ before.faults
-quiet_text None before now text f = ap (λ s. s.faults) f.1
-quiet_text (Some job) before now text f = f.quiet
+quiet_answer : (words : Option Job) (before now : Inputs) (answer : Answer) → FindsOutput words before now (Ok answer) → now.files.faults ≡ before.files.faults
+quiet_answer None before now answer f = ap (λ s. s.files.faults) f.1
+quiet_answer (Some job) before now answer f = f.quiet
 
-pub none_failed : (words : Option Job) (before now : FilesState) (found : Answer) (status : ℕ) (a b : SinkState) →
-    FindsText words before now found → Prints (seen_text found) status a b → status ≡ 0 → (now.faults ≡ before.faults) × (b.faults ≡ a.faults)
+pub none_failed : (words : Option Job) (before now : Inputs) (found : Outcome) (status : ℕ) (a b : SinkState) →
+    FindsOutput words before now found → Prints (seen_output found) status a b → status ≤ 1 → (now.files.faults ≡ before.files.faults) × (b.faults ≡ a.faults)
 none_failed words before now found status a b f p e =
     let d = done_found found status a b p e in
-    (quiet_text words before now d.0.0 (subst (FindsText words before now) d.0.1 f), d.1)
+    (quiet_answer words before now d.0.0 (subst (FindsOutput words before now) d.0.1 f), d.1)
+
+-- ---- an answer that is made of a text
+
+quiet_alike : (X Y : Type 0) (r : Refusal) (P : Type 0) → Unless {X = X} (Err r) P → Unless {X = Y} (Err r) P
+quiet_alike X Y InvalidArguments P h = h
+quiet_alike X Y OutOfMemory P h = h
+quiet_alike X Y (CallFailed failure) P h = h
+quiet_alike X Y (Found finding) P h = h
+
+of_job_alike : (X Y : Type 0) (r : Refusal) → IsOfJob {X = X} (Err r) → IsOfJob {X = Y} (Err r)
+of_job_alike X Y InvalidArguments h = h
+of_job_alike X Y OutOfMemory h = h
+of_job_alike X Y (CallFailed failure) h = h
+of_job_alike X Y (Found finding) h = h
+
+refusal_allowed : (P : Check (List ℕ)) (counted : Causes) (known : Option FileContents) (r : Refusal) → IsAllowed P known counted (Err r) → IsAllowed (AsText P) known counted (Err r)
+refusal_allowed P counted None InvalidArguments h = h
+refusal_allowed P counted None OutOfMemory h = h
+refusal_allowed P counted None (CallFailed failure) h = h
+refusal_allowed P counted None (Found finding) h = h
+refusal_allowed P counted (Some m) InvalidArguments h = inl (InvalidArguments, h, refl)
+refusal_allowed P counted (Some m) OutOfMemory h = h
+refusal_allowed P counted (Some m) (CallFailed failure) (inl h) = inl (inl (CallFailed failure, h, refl))
+refusal_allowed P counted (Some m) (CallFailed failure) (inr h) = inr (h.0, inl (CallFailed failure, h.1, refl))
+refusal_allowed P counted (Some m) (Found finding) h = inl (Found finding, h, refl)
+
+text_found : (P : Check (List ℕ)) (job : Job) (before now : Inputs) (found : Result (Vec ℕ Global) Refusal) → FindsFrom HasItems P job before now found → FindsFrom StandsForOutput (AsText P) job before now (of_text found)
+text_found P job before now (Ok text) f = record {
+  later = f.later;
+  quiet = f.quiet;
+  reads = f.reads;
+  allowed = (
+    WholeText text.items,
+    refl,
+    text_allowed P (InputsCounted before now) before.files.contents text.items (subst (λ t. IsAllowed P before.files.contents (InputsCounted before now) (Ok t)) (sym f.allowed.1) f.allowed.2),
+  );
+  of_job = tt;
+  trees = trees_alike job before.files.contents (Ok text) (Ok (TextAnswer text)) before.trees now.trees tt f.trees;
+}
+text_found P job before now (Err r) f = record {
+  later = f.later;
+  quiet = quiet_alike (Vec ℕ Global) Answer r (now.files.faults ≡ before.files.faults) f.quiet;
+  reads = f.reads;
+  allowed = refusal_allowed P (InputsCounted before now) before.files.contents r f.allowed;
+  of_job = of_job_alike (Vec ℕ Global) Answer r f.of_job;
+  trees = trees_alike job before.files.contents (Err r) (Err r) before.trees now.trees refl f.trees;
+}
+
+-- the answer of a command that makes its text whole
+pub found_text_of : (P : Check (List ℕ)) (job : Job) (before now : Inputs) (found : Result (Vec ℕ Global) Refusal) (result : Outcome) → result ≡ of_text found → FindsFrom HasItems P job before now found → FindsFrom StandsForOutput (AsText P) job before now result
+found_text_of P job before now found result e f = subst (FindsFrom StandsForOutput (AsText P) job before now) (sym e) (text_found P job before now found f)
+
+-- a job that names no folder has no trees
+pub no_trees_of : (words : List Text) (trees : List TreeState) → length trees ≡ length (folder_places words) → (job : Job) → job_of words ≡ Some job → job_folders job ≡ [] → trees ≡ []
+no_trees_of words [] e job f empty = refl
+no_trees_of words (tree ∷ trees) e job f empty =
+    let count : length (folder_places words) ≡ 0 = ap (λ j. length (places_of (asked_folders j))) f ∙ ap (λ l. length (places_of l)) empty in
+    absurd (omega (arith, e, count))
+
+-- and one that seals or applies has one
+pub one_folder : (words : List Text) (job : Job) (folder file : Operand) → job_of words ≡ Some job → job ≡ Apply folder file → length (folder_places words) ≡ 1
+one_folder words job folder file e is = ap (λ j. length (places_of (asked_folders j))) (e ∙ ap Some is)
+
+pub sealed_folder : (words : List Text) (job : Job) (folder file : Operand) → job_of words ≡ Some job → job ≡ Seal folder file → length (folder_places words) ≡ 1
+sealed_folder words job folder file e is = ap (λ j. length (places_of (asked_folders j))) (e ∙ ap Some is)
+
+-- a job that neither seals nor applies names no folder
+pub no_folders : (job : Job) → ((folder file : Operand) → job ≡ Seal folder file → ⊥) → ((folder file : Operand) → job ≡ Apply folder file → ⊥) → job_folders job ≡ []
+no_folders (Seal folder file) seal other = absurd (seal folder file refl)
+no_folders (Apply folder file) seal other = absurd (other folder file refl)
+no_folders Help seal other = refl
+no_folders (Replay snap log) seal other = refl
+no_folders (Canon log) seal other = refl
+no_folders (Conflicts logs) seal other = refl
+no_folders (Merge prefs logs) seal other = refl
+no_folders (Transition number prefs logs) seal other = refl
+no_folders (Steer set logs) seal other = refl
+no_folders (Drill seed logs steps) seal other = refl
+
+-- the answer of the words, of a job that names no folder
+pub files_answer : (job : Job) (words : Option Job) (before now : FilesState) (trees : List TreeState) (found : Outcome) → words ≡ Some job → job_folders job ≡ [] →
+    Answers StandsForOutput (IsJobAnswer job (held_tree trees)) (limits_of job) before now found → FindsOutput words (record { files = before; trees = trees }) (record { files = now; trees = trees }) found
+files_answer job words before now trees found e empty a = found_job job words (record { files = before; trees = trees }) (record { files = now; trees = trees }) found e (files_found job before now trees found empty a)
+
+-- and of an application
+pub found_apply : (folder file : Operand) (job : Job) (words : Option Job) (before now : Inputs) (found : Result (Vec ℕ Global) Refusal) (result : Outcome) → words ≡ Some job → job ≡ Apply folder file → result ≡ of_text found →
+    FindsFrom HasItems (IsApply folder file (held_tree before.trees)) (Apply folder file) before now found → FindsOutput words before now result
+found_apply folder file job words before now found result e is same f =
+    found_job (Apply folder file) words before now result (e ∙ ap Some is) (found_text_of (IsApply folder file (held_tree before.trees)) (Apply folder file) before now found result same f)
+
+-- and of a sealing
+pub found_seal : (folder file : Operand) (job : Job) (words : Option Job) (before now : Inputs) (found : Result (Vec ℕ Global) Refusal) (result : Outcome) → words ≡ Some job → job ≡ Seal folder file → result ≡ of_text found →
+    FindsFrom HasItems (IsSeal folder file (held_tree before.trees)) (Seal folder file) before now found → FindsOutput words before now result
+found_seal folder file job words before now found result e is same f =
+    found_job (Seal folder file) words before now result (e ∙ ap Some is) (found_text_of (IsSeal folder file (held_tree before.trees)) (Seal folder file) before now found result same f)

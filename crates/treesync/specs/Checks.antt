@@ -5,7 +5,9 @@ use Rattle.std.specs.declared.result.Result.{Result}
 use Rattle.sync_port.specs.States.{FaultCounted, IfKnown}
 use Rattle.sync_port.specs.Ports.{Names, FileContents, FilesState}
 use Rattle.treesync.specs.declared.refusal.Refusal.{Refusal}
-use Rattle.treesync.specs.declared.refusal.Refusal.TheVariants.{InvalidArguments, OutOfMemory, ReadFailed, Found}
+use Rattle.treesync.specs.declared.refusal.Refusal.TheVariants.{InvalidArguments, OutOfMemory, CallFailed, Found}
+use Rattle.treesync.specs.declared.refusal.Failure.{Failure}
+use Rattle.treesync.specs.declared.refusal.Failure.TheVariants.{ReadFailed, TreeFailed, TreeDenied}
 
 -- ---- which answers are right
 
@@ -34,28 +36,32 @@ IsOne {A} P = (held : Names) (one other : Result A Refusal) → P held false one
 
 -- ---- which answers are allowed
 
--- Over what is held: the right answer, or out of memory, or a call that failed in its turn, where a
--- fault was counted.
-abbrev pub IsRight : {A : Type 0} → Check A → Names → Type 0 → Result A Refusal → Type 0
+-- for each failure, that its cause was counted
+abbrev pub Causes : Type 1
+Causes = Failure → Type 0
+
+-- Over what is held: the right answer, or out of memory, or a call that failed in its turn, where its
+-- cause was counted.
+abbrev pub IsRight : {A : Type 0} → Check A → Names → Causes → Result A Refusal → Type 0
 IsRight P held counted (Ok a) = P held false (Ok a)
 IsRight P held counted (Err InvalidArguments) = P held false (Err InvalidArguments)
 IsRight P held counted (Err OutOfMemory) = ⊤
-IsRight P held counted (Err (ReadFailed word)) = P held false (Err (ReadFailed word)) ⊎ (counted × P held true (Err (ReadFailed word)))
+IsRight P held counted (Err (CallFailed failure)) = P held false (Err (CallFailed failure)) ⊎ (counted failure × P held true (Err (CallFailed failure)))
 IsRight P held counted (Err (Found finding)) = P held false (Err (Found finding))
 
--- over files of unknown contents: a call failed only where a fault was counted
-abbrev pub IsCounted : {A : Type 0} → Type 0 → Result A Refusal → Type 0
-IsCounted counted (Err (ReadFailed word)) = counted
+-- over files of unknown contents: a call failed only where its cause was counted
+abbrev pub IsCounted : {A : Type 0} → Causes → Result A Refusal → Type 0
+IsCounted counted (Err (CallFailed failure)) = counted failure
 IsCounted counted answer = ⊤
 
-abbrev pub IsAllowed : {A : Type 0} → Check A → Option FileContents → Type 0 → Result A Refusal → Type 0
+abbrev pub IsAllowed : {A : Type 0} → Check A → Option FileContents → Causes → Result A Refusal → Type 0
 IsAllowed P None counted answer = IsCounted counted answer
 IsAllowed P (Some m) counted answer = IsRight P m.held counted answer
 
 -- ---- what functions owe
 
 -- an answer with a value that stands for what the check gives
-abbrev pub IsAllowedOf : {X A : Type 0} → (X → A → Type 0) → Check A → Option FileContents → Type 0 → Result X Refusal → Type 0
+abbrev pub IsAllowedOf : {X A : Type 0} → (X → A → Type 0) → Check A → Option FileContents → Causes → Result X Refusal → Type 0
 IsAllowedOf {A = A} stands P contents counted (Ok x) = (a : A) × stands x a × IsAllowed P contents counted (Ok a)
 IsAllowedOf stands P contents counted (Err r) = IsAllowed P contents counted (Err r)
 
@@ -70,9 +76,15 @@ IsOfJob result = ⊤
 
 -- P, unless a call failed or memory ran out
 abbrev pub Unless : {X : Type 0} → Result X Refusal → Type 0 → Type 0
-Unless (Err (ReadFailed word)) P = ⊤
+Unless (Err (CallFailed failure)) P = ⊤
 Unless (Err OutOfMemory) P = ⊤
 Unless result P = P
+
+-- the reading of a file failed only where a fault of the files was counted, and no tree is asked
+abbrev pub FilesCounted : FilesState → FilesState → Causes
+FilesCounted before now (ReadFailed word) = FaultCounted before now
+FilesCounted before now (TreeFailed word) = ⊥
+FilesCounted before now (TreeDenied word) = ⊥
 
 -- what is held stays; at most so many files were opened as there are limits, and at most one byte past each limit was read
 pub record ReadsFiles (limits : List ℕ) (m k : FileContents) : Type 0 where
@@ -85,7 +97,7 @@ pub record Answers {X A : Type 0} (stands : X → A → Type 0) (P : Check A) (l
   pub later : before.faults ≤ now.faults
   pub quiet : Unless result (now.faults ≡ before.faults)
   pub reads : IfKnown before now (ReadsFiles limits)
-  pub allowed : IsAllowedOf stands P before.contents (FaultCounted before now) result
+  pub allowed : IsAllowedOf stands P before.contents (FilesCounted before now) result
   pub job : IsOfJob result
 
 -- what a function owes that judges what was read and opens no file
@@ -94,7 +106,7 @@ IsJudged {A = A} stands Q (Ok x) = (a : A) × stands x a × Q (Ok a)
 IsJudged stands Q (Err (Found finding)) = Q (Err (Found finding))
 IsJudged stands Q (Err OutOfMemory) = ⊤
 IsJudged stands Q (Err InvalidArguments) = ⊥
-IsJudged stands Q (Err (ReadFailed word)) = ⊥
+IsJudged stands Q (Err (CallFailed failure)) = ⊥
 
 -- the answer as the definitions see it
 abbrev pub seen : {X A : Type 0} → (X → A) → Result X Refusal → Result A Refusal

@@ -1,10 +1,11 @@
 -- How a job ends: what `out` and `err` gain, and the status.
-use Rattle.std.specs.Prelude.{◌≡◌, ◌⊎◌, ◌==◌, ◌++◌, [], List, ℕ, Ok, Err, codes, length, take, if◌then◌else◌}
+use Rattle.std.specs.Prelude.{◌≡◌, ◌⊎◌, ◌==◌, ◌≤◌, ◌++◌, [], List, ℕ, Ok, Err, codes, length, take, if◌then◌else◌}
 use Rattle.std.specs.declared.result.Result.{Result}
 use Rattle.sync_port.specs.States.{FaultCounted, IfKnown}
 use Rattle.sync_port.specs.Ports.{SinkContents, SinkState}
 use Rattle.sync_port.specs.declared.faults.SinkFailed.{SinkFailed}
 use Rattle.treesync.specs.Messages.{status_of, message_of, what_line}
+use Rattle.treesync.specs.Outputs.{ClashLines, Output, WholeText, status_in, text_in}
 use Rattle.treesync.specs.declared.refusal.Refusal.{Refusal}
 
 -- what `out` gained: the whole text, flushed; or after a failure its first bytes
@@ -12,21 +13,34 @@ abbrev pub PrintsAll : {T : Type 0} → List ℕ → Result T SinkFailed → Sin
 PrintsAll text (Ok done) m k = (k.written ≡ m.written ++ text) × (k.flushed ≡ length k.written)
 PrintsAll text (Err failed) m k = (n : ℕ) × (k.written ≡ m.written ++ take n text)
 
--- the same by the status
+-- the same by the status: the first bytes, and the whole text, flushed, with 0 or 1
 pub record Printed (status : ℕ) (text : List ℕ) (m k : SinkContents) : Type 0 where
-  pub whole : status ≡ 0 → (k.written ≡ m.written ++ text) × (k.flushed ≡ length k.written)
-  pub part : status ≡ 4 → (n : ℕ) × (k.written ≡ m.written ++ take n text)
+  pub whole : status ≤ 1 → (k.written ≡ m.written ++ text) × (k.flushed ≡ length k.written)
+  pub part : (n : ℕ) × (k.written ≡ m.written ++ take n text)
 
--- A text is printed: with status 0 where no call failed, or with 4 where a fault was counted. After a
--- refusal `out` is as before.
-abbrev pub Prints : Result (List ℕ) Refusal → ℕ → SinkState → SinkState → Type 0
-Prints (Ok text) status before now =
-    (((status ≡ 0) × (now.faults ≡ before.faults)) ⊎ ((status ≡ 4) × FaultCounted before now)) × IfKnown before now (Printed status text)
+-- with the status of the whole where no call failed, or with 4 where a fault was counted
+abbrev pub IsDone : ℕ → ℕ → SinkState → SinkState → Type 0
+IsDone whole status before now = ((status ≡ whole) × (now.faults ≡ before.faults)) ⊎ ((status ≡ 4) × FaultCounted before now)
+
+-- memory may run out only between lines that are written as they come
+abbrev pub EndsWith : Output → ℕ → SinkState → SinkState → Type 0
+EndsWith (WholeText text) status before now = IsDone 0 status before now
+EndsWith (ClashLines lines) status before now =
+    IsDone (status_in (ClashLines lines)) status before now ⊎ ((status ≡ 16) × (now.faults ≡ before.faults))
+
+-- An output is printed. After a refusal `out` is as before.
+abbrev pub Prints : Result Output Refusal → ℕ → SinkState → SinkState → Type 0
+Prints (Ok output) status before now = EndsWith output status before now × IfKnown before now (Printed status (text_in output))
 Prints (Err r) status before now = (status ≡ status_of r) × (now ≡ before)
 
+-- the line on `err` where printing ended with a status
+abbrev pub end_line : ℕ → List ℕ
+end_line status =
+    if status == 4 then what_line (codes "write failed") else (if status == 16 then what_line (codes "out of memory") else [])
+
 -- the one line that an answer with a status wants on `err`
-abbrev pub line_of : List (List ℕ) → Result (List ℕ) Refusal → ℕ → List ℕ
-line_of words (Ok text) status = if status == 0 then [] else what_line (codes "write failed")
+abbrev pub line_of : List (List ℕ) → Result Output Refusal → ℕ → List ℕ
+line_of words (Ok output) status = end_line status
 line_of words (Err r) status = message_of words r
 
 -- the line, or its first bytes where a fault was counted

@@ -10,7 +10,8 @@ use Rattle.log_text.specs.Snapshots.{snapshot_of}
 use Rattle.treesync.specs.Checks.{Check, Judged, Then}
 use Rattle.treesync.specs.declared.input.TheConstants.{FILE_LIMIT}
 use Rattle.treesync.specs.declared.refusal.Refusal.{Refusal}
-use Rattle.treesync.specs.declared.refusal.Refusal.TheVariants.{OutOfMemory, ReadFailed, Found}
+use Rattle.treesync.specs.declared.refusal.Refusal.TheVariants.{OutOfMemory, CallFailed, Found}
+use Rattle.treesync.specs.declared.refusal.Failure.TheVariants.{ReadFailed}
 use Rattle.sync_port.specs.declared.faults.PortFault.{PortFault}
 use Rattle.sync_port.specs.declared.faults.PortFault.TheVariants.{Failed}
 use Rattle.sync_port.specs.declared.faults.PortFault.TheVariants as port
@@ -18,13 +19,13 @@ use Rattle.treesync.specs.declared.refusal.Finding.TheVariants.{TooLarge, Text}
 
 -- the bytes of the file that a word names, up to the limit
 abbrev pub file_answer : ℕ → ℕ → Option (List ℕ) → Result (List ℕ) Refusal
-file_answer limit word None = Err (ReadFailed word)
+file_answer limit word None = Err (CallFailed (ReadFailed word))
 file_answer limit word (Some bytes) = if nat_lt limit (length bytes) then Err (Found (TooLarge word)) else Ok bytes
 
 -- where a call fails, the reading of the file is refused
 abbrev pub IsFile : ℕ → ℕ → List ℕ → Check (List ℕ)
 IsFile limit word name held false answer = answer ≡ file_answer limit word (held name)
-IsFile limit word name held true answer = answer ≡ Err (ReadFailed word)
+IsFile limit word name held true answer = answer ≡ Err (CallFailed (ReadFailed word))
 
 -- what a text reads as, or the fault of the file that a word names
 abbrev pub text_answer : {A : Type 0} → ℕ → Result A TextFault → Result A Refusal
@@ -33,7 +34,7 @@ text_answer word (Err fault) = Err (Found (Text word fault))
 
 -- what a refused call on the file means
 abbrev pub call_refusal : ℕ → PortFault → Refusal
-call_refusal word Failed = ReadFailed word
+call_refusal word Failed = CallFailed (ReadFailed word)
 call_refusal word port.Memory = OutOfMemory
 
 -- what a fault of the text means

@@ -1,5 +1,5 @@
--- The headline of merging, in the words of the model: what `merge` prints, and when it prints, and where each printed
--- transition leads.
+-- The headline, in the words of the model: what `merge` prints, and when it prints; where each printed transition leads;
+-- and that `apply`, stopped between any two calls of the tree and run again, ends there.
 use Rattle.std.specs.Prelude.{◌≡◌, ◌⊎◌, ◌≤◌, ◌-◌, ◌++◌, ℕ, List, [], ◌∷◌, map, length, ⊤, Option, None, Some}
 use Rattle.std.specs.List.{sum_by}
 use Rattle.sync_command.specs.Changes.{Change}
@@ -11,19 +11,25 @@ use Rattle.sync_port.specs.States.{FaultCounted, IfKnown}
 use Rattle.sync_port.specs.Ports.{FileContents, Names, SinkState}
 use Rattle.canon_set.specs.Sets.{canonical}
 use Rattle.log_text.specs.Logs.{IsLog, log_text}
+use Rattle.refluent.specs.Clashes.{HasNoClash}
 use Rattle.refluent.specs.CommonTrees.{HasCommonTree, IsCommonTree}
 use Rattle.refluent.specs.Drawn.{drawn_commands}
 use Rattle.refluent.specs.FirstDisagreements.{log_at}
-use Rattle.refluent.specs.Joints.{net_sets}
 use Rattle.refluent.specs.Mergers.{IsMerger}
-use Rattle.pref_list.specs.Orders.{first_fault}
+use Rattle.refluent.specs.Sets.{HaveSameCommands}
 use Rattle.pref_list.specs.Prefs.{IsPrefs, prefs_text}
 use Rattle.pref_list.specs.declared.rules.Rule.{Rule}
 use Rattle.merge_core.specs.Steering.{steering_rules}
 use Rattle.tool_words.specs.Jobs.{job_of}
 use Rattle.tool_words.specs.Words.{Operand, Text}
-use Rattle.tool_words.specs.declared.job.Job.TheVariants.{Merge, Transition}
-use Rattle.treesync.specs.Jobs.{Outside}
+use Rattle.tool_words.specs.declared.job.Job.TheVariants.{Apply, Conflicts, Merge, Seal, Steer, Transition}
+use Rattle.tree_port.specs.States.{Counts, IsCounted, TreeState}
+use Rattle.resume_apply.specs.Finishing.{IsPaid}
+use Rattle.resume_apply.specs.Ready.{IsOnItsWay, IsReady, work}
+use Rattle.record_core.specs.Seals.{IsLogOf, IsSealed, OpenLog}
+use Rattle.canon_set.specs.Logs.{IsTaken, net}
+use Rattle.treesync.specs.Apply.{applied_text}
+use Rattle.treesync.specs.Jobs.{IsCountedByFirst, Outside, held_tree}
 use Rattle.treesync.specs.Logs.{later_version}
 use Rattle.treesync.specs.Merge.{IsFirstMergerFor}
 use Rattle.treesync.specs.declared.input.TheConstants.{FILE_LIMIT}
@@ -76,6 +82,11 @@ IsMergerOf logs set = (m : Store) → IsCommonTree m logs → IsMerger (at m) (d
 abbrev pub Gains : List ℕ → SinkState → SinkState → Type 0
 Gains text before now = IfKnown before now (λ m k. (k.written ≡ m.written ++ text) × (k.flushed ≡ length k.written))
 
+-- the text of a set is within the limits of a log that is read
+pub record IsWithinLimits (version : Version) (set : List Change) : Type 0 where
+  pub bytes : length (log_text version set) ≤ FILE_LIMIT
+  pub commands : length set ≤ MAX_COMMANDS
+
 -- the files hold logs that some tree takes together, and `out` gained a merger of them, the first under the rules that
 -- are held
 pub record GainsMerger (held : Names) (prefs : Option Operand) (files : List Operand) (before now : SinkState) : Type 0 where
@@ -87,6 +98,7 @@ pub record GainsMerger (held : Names) (prefs : Option Operand) (files : List Ope
   pub merger : List Change
   pub is : IsMergerOf (all_commands logs) merger
   pub first : IsFirstMergerFor (all_commands logs) rules merger
+  pub within : IsWithinLimits (latest_version logs) (canonical merger)
   pub gains : Gains (log_text (latest_version logs) (canonical merger)) before now
 
 -- With status 0 a `merge` printed a merger.
@@ -111,6 +123,7 @@ pub record GainsTransition (held : Names) (number : ℕ) (prefs : Option Operand
   pub common : HasCommonTree (all_commands logs)
   pub set : List Change
   pub leads : (merger : List Change) → IsFirstMergerFor (all_commands logs) rules merger → LeadsToMerger (all_commands logs) number set merger
+  pub within : IsWithinLimits (latest_version logs) set
   pub gains : Gains (log_text (latest_version logs) set) before now
 
 -- With status 0 a `transition` printed what leads its replica's tree to the tree of the merger that `merge` prints under
@@ -120,6 +133,31 @@ PrintsTransition words before now status =
     (number : ℕ) (prefs : Option Operand) (files : List Operand) (m : FileContents) →
     job_of words ≡ Some (Transition number prefs files) → before.files.contents ≡ Some m → status ≡ 0 →
     GainsTransition m.held number prefs files before.out now.out
+
+-- ---- clashes
+
+-- the files hold logs that some tree takes together, of which P holds
+pub record HoldTogether (held : Names) (files : List Operand) (P : List (List Change) → Type 0) : Type 0 where
+  pub logs : List Recorded
+  pub hold : HoldLogs held files logs
+  pub common : HasCommonTree (all_commands logs)
+  pub so : P (all_commands logs)
+
+-- all the net commands of the logs together are their only merger
+abbrev pub IsOnlyMerger : List (List Change) → Type 0
+IsOnlyMerger logs =
+    IsMergerOf logs (drawn_commands logs) × ((m : Store) (merger : List Change) → IsCommonTree m logs →
+    IsMerger (at m) (drawn_commands logs) merger → HaveSameCommands merger (drawn_commands logs))
+
+-- With status 0 a `conflicts` found that no two net commands clash, and then all of them are the only merger; with
+-- status 1 it found that some do.
+abbrev pub TellsClashes : List Text → Outside → Outside → ℕ → Type 0
+TellsClashes words before now status =
+    (files : List Operand) (m : FileContents) → job_of words ≡ Some (Conflicts files) → before.files.contents ≡ Some m →
+    (status ≡ 0 → HoldTogether m.held files (λ logs. HasNoClash (drawn_commands logs) × IsOnlyMerger logs)) ×
+    (status ≡ 1 → HoldTogether m.held files (λ logs. HasNoClash (drawn_commands logs) → ⊥))
+
+-- ---- when it is printed
 
 -- the status is one of a text or of memory that ran out, unless a fault was counted
 abbrev pub Completes : Outside → Outside → ℕ → Type 0
@@ -135,11 +173,104 @@ PrintsSteered words before now status =
     HoldsRules m.held prefs (steering_rules (all_commands logs) merger) →
     (status ≡ 0 → Gains (log_text (latest_version logs) (canonical merger)) before.out now.out) × Completes before now status
 
--- Where some tree takes all the logs and the logs have what the rules name, `merge` prints.
-abbrev pub CompletesMerge : List Text → Outside → Outside → ℕ → Type 0
-CompletesMerge words before now status =
-    (prefs : Option Operand) (files : List Operand) (m : FileContents) (logs : List Recorded) (rules : List Rule) →
-    job_of words ≡ Some (Merge prefs files) → before.files.contents ≡ Some m →
-    HoldLogs m.held files logs → HoldsRules m.held prefs rules →
-    HasCommonTree (all_commands logs) → first_fault (net_sets (all_commands logs)) rules ≡ None →
-    Completes before now status
+-- ---- `steer`
+
+-- the files hold SET, whose net set is a merger of logs that some tree takes together, and `out` gained the rules that
+-- steer to that merger
+pub record GainsRules (held : Names) (file : Operand) (files : List Operand) (before now : SinkState) : Type 0 where
+  pub set : Recorded
+  pub logs : List Recorded
+  pub holds : HoldLogs held (file ∷ []) (set ∷ [])
+  pub hold : HoldLogs held files logs
+  pub common : HasCommonTree (all_commands logs)
+  pub is : IsMergerOf (all_commands logs) (canonical (net set.commands))
+  pub gains : Gains (prefs_text (steering_rules (all_commands logs) (canonical (net set.commands)))) before now
+
+-- With status 0 a `steer` printed the rules that steer to the merger that SET holds.
+abbrev pub PrintsRules : List Text → Outside → Outside → ℕ → Type 0
+PrintsRules words before now status =
+    (file : Operand) (files : List Operand) (m : FileContents) →
+    job_of words ≡ Some (Steer file files) → before.files.contents ≡ Some m → status ≡ 0 →
+    GainsRules m.held file files before.out now.out
+
+-- ---- `apply`
+
+-- the file holds a log within the limits that some tree takes, and this is its net set
+pub record HoldsSet (held : Names) (file : Operand) (set : List Change) : Type 0 where
+  pub log : Recorded
+  pub hold : HoldLogs held (file ∷ []) (log ∷ [])
+  pub taken : IsTaken log.commands
+  pub net : set ≡ canonical (net log.commands)
+
+-- the tree that is known as a run begins is ready for the set, and was led to the target; `out` gained its work
+pub record GainsApplied (set : List Change) (m : Store) (before now : Outside) : Type 0 where
+  pub ready : IsReady (at m) set
+  pub tree : Store
+  pub held : held_tree now.trees ≡ Some tree
+  pub target : at tree ≡ after set (at m)
+  pub gains : Gains (applied_text (work set (at m))) before.out now.out
+
+-- With status 0 an `apply` led the tree to where the set of SET leads it, and printed the work that this took.
+abbrev pub PrintsApplied : List Text → Outside → Outside → ℕ → Type 0
+PrintsApplied words before now status =
+    (folder file : Operand) (m : FileContents) (set : List Change) (tree : Store) →
+    job_of words ≡ Some (Apply folder file) → before.files.contents ≡ Some m → HoldsSet m.held file set →
+    held_tree before.trees ≡ Some tree → status ≡ 0 → GainsApplied set tree before now
+
+-- the status is one of a text or of memory that ran out, unless a fault was counted, that of a tree among them
+abbrev pub CompletesOnTree : Outside → Outside → ℕ → Type 0
+CompletesOnTree before now status = (IsCountedByFirst (λ c. c.faults) before.trees now.trees → ⊥) → Completes before now status
+
+-- the counts of the first tree, and those of a list that has none
+abbrev pub Paid : List Change → List TreeState → Store → List TreeState → Store → Type 0
+Paid set (tree ∷ trees) m (now ∷ later) n = IsPaid tree.counts (work set (at m)) now.counts (work set (at n))
+Paid set trees m later n = ⊥
+
+-- What a run leaves of a tree m that is on its way from `start`: it is still on its way, and the target after a text. The
+-- changes that were counted are paid by the work that was left.
+pub record GoesOn (set : List Change) (start m : Store) (before now : Outside) (status : ℕ) : Type 0 where
+  pub tree : Store
+  pub held : held_tree now.trees ≡ Some tree
+  pub way : IsOnItsWay set (at start) (at tree)
+  pub paid : Paid set before.trees m now.trees tree
+  pub target : (status ≡ 0) ⊎ (status ≡ 4) → at tree ≡ after set (at start)
+  pub completes : CompletesOnTree before now status
+
+-- Interrupted application: wherever runs with the same words that were stopped, each between any two calls of the tree,
+-- left a tree on its way from `start`, where nobody else wrote, this run leaves it on its way, and it ends at the target
+-- of `start` unless a fault was counted or memory runs out. A tree that is ready is on its way from itself.
+abbrev pub ResumesApply : List Text → Outside → Outside → ℕ → Type 0
+ResumesApply words before now status =
+    (folder file : Operand) (m : FileContents) (set : List Change) (start tree : Store) →
+    job_of words ≡ Some (Apply folder file) → before.files.contents ≡ Some m → HoldsSet m.held file set →
+    held_tree before.trees ≡ Some tree → IsOnItsWay set (at start) (at tree) → GoesOn set start tree before now status
+
+-- A tree that is not ready for the set stays.
+abbrev pub KeepsUnready : List Text → Outside → Outside → Type 0
+KeepsUnready words before now =
+    (folder file : Operand) (m : FileContents) (set : List Change) (tree : Store) →
+    job_of words ≡ Some (Apply folder file) → before.files.contents ≡ Some m → HoldsSet m.held file set →
+    held_tree before.trees ≡ Some tree → (IsReady (at tree) set → ⊥) → held_tree now.trees ≡ Some tree
+
+-- ---- `seal`
+
+-- the file holds the text of an open log within the limit that some tree takes
+pub record HoldsOpen (held : Names) (file : Operand) (text : List ℕ) (log : OpenLog) : Type 0 where
+  pub there : held file.text ≡ Some text
+  pub bytes : length text ≤ FILE_LIMIT
+  pub read : IsLogOf text log
+  pub taken : IsTaken log.commands
+
+-- With status 0 the sealed list was printed as a log; where there is one the status is 0, or memory ran out, unless a fault
+-- was counted; and the tree stays.
+pub record SealsHeld (log : OpenLog) (m : Store) (before now : Outside) (status : ℕ) : Type 0 where
+  pub prints : status ≡ 0 → (sealed : List Change) × IsSealed log (at m) sealed × Gains (log_text log.version sealed) before.out now.out
+  pub completes : (sealed : List Change) → IsSealed log (at m) sealed → CompletesOnTree before now status
+  pub kept : held_tree now.trees ≡ Some m
+
+-- What `seal` does with a log that a stopped recording left.
+abbrev pub PrintsSealed : List Text → Outside → Outside → ℕ → Type 0
+PrintsSealed words before now status =
+    (folder file : Operand) (m : FileContents) (text : List ℕ) (log : OpenLog) (tree : Store) →
+    job_of words ≡ Some (Seal folder file) → before.files.contents ≡ Some m → HoldsOpen m.held file text log →
+    held_tree before.trees ≡ Some tree → SealsHeld log tree before now status

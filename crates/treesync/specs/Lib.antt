@@ -8,7 +8,15 @@ pub mod Replay
 pub mod Merge
 pub mod Steer
 pub mod Transition
+pub mod Outputs
+pub mod Conflicts
+pub mod Apply
+pub mod Drill
+pub mod Seal
+pub mod Answering
+pub mod Writing
 pub mod Jobs
 pub mod Headline
+pub mod Completeness
 pub mod Messages
 pub mod Ends

@@ -3,9 +3,11 @@ use Rattle.std.specs.Prelude.{ℕ, ◌+◌, List, [], ◌∷◌, ◌++◌, codes
 use Rattle.std.specs.List.{concat}
 use Rattle.sync_path.specs.Paths.{Node, path_text}
 use Rattle.treesync.specs.declared.refusal.Refusal.{Refusal}
-use Rattle.treesync.specs.declared.refusal.Refusal.TheVariants.{InvalidArguments, OutOfMemory, ReadFailed, Found}
+use Rattle.treesync.specs.declared.refusal.Refusal.TheVariants.{InvalidArguments, OutOfMemory, CallFailed, Found}
+use Rattle.treesync.specs.declared.refusal.Failure.{Failure}
+use Rattle.treesync.specs.declared.refusal.Failure.TheVariants.{ReadFailed, TreeFailed, TreeDenied}
 use Rattle.treesync.specs.declared.refusal.Finding.{Finding}
-use Rattle.treesync.specs.declared.refusal.Finding.TheVariants.{TooLarge, Text, NoTree, NoCommonTree, NoSuchLog, NoCommand, NotDrawn, DoesNotFit, CanAdd, NotTaken}
+use Rattle.treesync.specs.declared.refusal.Finding.TheVariants.{TooLarge, Text, NoTree, NoCommonTree, NoSuchLog, NoCommand, Diverged, Blocked, NotDrawn, DoesNotFit, CanAdd, NotTaken}
 use Rattle.tool_words.specs.Operands.{text_at}
 use Rattle.log_text.specs.declared.faults.TextKind.{TextKind}
 use Rattle.log_text.specs.declared.faults.TextKind.TheVariants as kind
@@ -14,6 +16,8 @@ abbrev pub finding_status : Finding → ℕ
 finding_status (Text word fault) = 5
 finding_status (NoTree word number) = 6
 finding_status (NoCommonTree first second path) = 7
+finding_status (Diverged word path) = 8
+finding_status (Blocked word path) = 9
 finding_status (TooLarge word) = 12
 finding_status (NoSuchLog word number) = 13
 finding_status (NoCommand word number) = 13
@@ -22,9 +26,14 @@ finding_status (DoesNotFit word path) = 14
 finding_status (CanAdd word log path) = 14
 finding_status (NotTaken word number) = 17
 
+abbrev pub failure_status : Failure → ℕ
+failure_status (ReadFailed word) = 3
+failure_status (TreeFailed word) = 10
+failure_status (TreeDenied word) = 11
+
 abbrev pub status_of : Refusal → ℕ
 status_of InvalidArguments = 2
-status_of (ReadFailed word) = 3
+status_of (CallFailed failure) = failure_status failure
 status_of OutOfMemory = 16
 status_of (Found finding) = finding_status finding
 
@@ -82,13 +91,21 @@ finding_message words (NoTree word number) = numbered_line (text_at words word) 
 finding_message words (NoCommonTree first second path) = disagreement_line first second path
 finding_message words (NoSuchLog word number) = numbered_line (text_at words word) (decimal (number + 1)) (codes "no such log")
 finding_message words (NoCommand word number) = numbered_line (text_at words word) (decimal (number + 1)) (codes "no such command")
+finding_message words (Diverged word path) = path_line (text_at words word) (codes "diverged at ") path
+finding_message words (Blocked word path) = path_line (text_at words word) (codes "blocked at ") path
 finding_message words (NotDrawn word path) = path_line (text_at words word) (codes "not drawn at ") path
 finding_message words (DoesNotFit word path) = path_line (text_at words word) (codes "does not fit at ") path
 finding_message words (CanAdd word log path) = can_add_line (text_at words word) log path
 finding_message words (NotTaken word number) = numbered_line (text_at words word) (decimal (number + 1)) (codes "not taken")
 
+-- the line of a call that was refused
+abbrev pub failure_message : List (List ℕ) → Failure → List ℕ
+failure_message words (ReadFailed word) = file_line (text_at words word) (codes "read failed")
+failure_message words (TreeFailed word) = file_line (text_at words word) (codes "tree failed")
+failure_message words (TreeDenied word) = file_line (text_at words word) (codes "tree denied")
+
 abbrev pub message_of : List (List ℕ) → Refusal → List ℕ
 message_of words InvalidArguments = what_line (codes "words refused")
-message_of words (ReadFailed word) = file_line (text_at words word) (codes "read failed")
+message_of words (CallFailed failure) = failure_message words failure
 message_of words OutOfMemory = what_line (codes "out of memory")
 message_of words (Found finding) = finding_message words finding

@@ -15,7 +15,8 @@ use sync_port::Files;
 /// The text of the log's net set. The word at the place `word` names the log.
 fn net_text(alloc: Global, word: usize, log: LogFile<Total>) -> Result<Vec<u8>, Refusal>
     requires { (read : ReadLog) × IsLogFile IsTotal log read }
-    ensures { (read : ReadLog) → IsLogFile IsTotal log read → IsJudged HasItems (IsNet word read) result }
+    ensures { (read : ReadLog) → IsLogFile IsTotal log read →
+        IsJudged HasItems (IsNet word read) result }
 {
     let set = match log.commands.broken {
         Some(number) => return Err(Refusal::Found(Finding::NoTree { word, number })),
@@ -34,7 +35,8 @@ pub fn canon<F: Files>(
     name: &str,
     files: &mut F,
 ) -> Result<Vec<u8>, Refusal>
-    ensures { Answers HasItems (IsCanon word name.now) (FILE_LIMIT ∷ []) (F.files files.old) (F.files files.new) result }
+    ensures { Answers HasItems (IsCanon word name.now) (FILE_LIMIT ∷ []) (F.files files.old)
+        (F.files files.new) result }
 {
     let log = read_sum(alloc, word, name, FULL_ALLOWANCE, files)?;
     net_text(alloc, word, log)

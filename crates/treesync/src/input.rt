@@ -8,7 +8,7 @@ ghost use Rattle.sync_path.specs.Paths.{parts};
 ghost use Rattle.log_text.specs.Snapshots.{snapshot_of, IsRowOfVersion};
 ghost use Rattle.sync_command.specs.Rows.{IsRowTree};
 
-use crate::{Finding, Refusal};
+use crate::{Failure, Finding, Refusal};
 use log_text::{LogFault, read_snapshot};
 use std::alloc::Global;
 use sync_command::{Row, Version};
@@ -22,7 +22,7 @@ pub fn call_refusal(word: usize, fault: PortFault) -> Refusal
     ensures { result ≡ call_refusal word fault }
 {
     match fault {
-        PortFault::Failed => Refusal::ReadFailed { word },
+        PortFault::Failed => Refusal::CallFailed(Failure::ReadFailed { word }),
         PortFault::Memory => Refusal::OutOfMemory,
     }
 }
@@ -45,11 +45,12 @@ pub fn read_file<F: Files>(
     limit: usize,
     files: &mut F,
 ) -> Result<Vec<u8>, Refusal>
-    ensures { Answers HasItems (IsFile limit word name.now) (limit ∷ []) (F.files files.old) (F.files files.new) result }
+    ensures { Answers HasItems (IsFile limit word name.now) (limit ∷ []) (F.files files.old)
+        (F.files files.new) result }
 {
     match read_whole(alloc, files, name, limit) {
         Ok(bytes) => Ok(bytes),
-        Err(WholeFault::ReadFault) => Err(Refusal::ReadFailed { word }),
+        Err(WholeFault::ReadFault) => { Err(Refusal::CallFailed(Failure::ReadFailed { word })) }
         Err(WholeFault::TooLarge) => Err(Refusal::Found(Finding::TooLarge { word })),
         Err(WholeFault::Memory) => Err(Refusal::OutOfMemory),
     }
@@ -57,7 +58,8 @@ pub fn read_file<F: Files>(
 
 /// The version and the rows of a snapshot's text.
 fn judge_snapshot(alloc: Global, word: usize, bytes: &[u8]) -> Result<(Version, Vec<Row>), Refusal>
-    ensures rows { IsJudged HasRows (λ a. a ≡ text_answer word (snapshot_of (parts 10 bytes.now))) result }
+    ensures rows { IsJudged HasRows
+        (λ a. a ≡ text_answer word (snapshot_of (parts 10 bytes.now))) result }
     ensures tree { IfOk result (λ r. IsRowTree r.1.items) }
     ensures printable { IfOk result (λ r. AllByRecursion (IsRowOfVersion r.0) r.1.items) }
 {
@@ -76,7 +78,8 @@ pub fn snapshot_file<F: Files>(
     name: &str,
     files: &mut F,
 ) -> Result<(Version, Vec<Row>), Refusal>
-    ensures answer { Answers HasRows (IsSnapshot word name.now) (FILE_LIMIT ∷ []) (F.files files.old) (F.files files.new) result }
+    ensures answer { Answers HasRows (IsSnapshot word name.now) (FILE_LIMIT ∷ [])
+        (F.files files.old) (F.files files.new) result }
     ensures tree { IfOk result (λ r. IsRowTree r.1.items) }
     ensures printable { IfOk result (λ r. AllByRecursion (IsRowOfVersion r.0) r.1.items) }
 {

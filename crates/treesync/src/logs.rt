@@ -40,7 +40,8 @@ pub trait TakesCommands {
 
     /// Takes over the log's next command.
     fn add(&mut self, command: Command) -> Result<(), NoMemory>
-        ensures { OnOk result ((cs : List Change) → stands self.old cs → stands self.new (cs ++ command ∷ [])) };
+        ensures { OnOk result ((cs : List Change) → stands self.old cs →
+            stands self.new (cs ++ command ∷ [])) };
 }
 
 /// The sum of a log's commands, or the number of the command up to which no tree takes the log: the sum is then that of
@@ -114,7 +115,9 @@ struct LogIntake<T> {
 impl<T: TakesCommands + Drop> LogIntake<T> {
     /// Hands all commands on that are complete.
     fn hand_on(&mut self) -> Result<(), NoMemory>
-        ensures { OnOk result ((text : List ℕ) → HoldsLog T.stands self.old.reader self.old.into text → IsFed T.stands self.new.reader self.new.into text) }
+        ensures { OnOk result ((text : List ℕ) →
+            HoldsLog T.stands self.old.reader self.old.into text →
+            IsFed T.stands self.new.reader self.new.into text) }
     {
         'waiting: while let Some(command) = self.reader.take() {
             self.into.add(command)?;
@@ -124,7 +127,9 @@ impl<T: TakesCommands + Drop> LogIntake<T> {
 
     /// Takes the next piece of the text. A fault of the text stays in the reader until the text ends.
     fn feed(&mut self, piece: &[u8]) -> Result<(), NoMemory>
-        ensures { OnOk result ((text : List ℕ) → IsFed T.stands self.old.reader self.old.into text → IsFed T.stands self.new.reader self.new.into (text ++ piece.now)) }
+        ensures { OnOk result ((text : List ℕ) →
+            IsFed T.stands self.old.reader self.old.into text →
+            IsFed T.stands self.new.reader self.new.into (text ++ piece.now)) }
     {
         match self.reader.feed(piece) {
             Ok(()) => self.hand_on(),
@@ -175,7 +180,8 @@ pub fn read_log<F: Files, T: TakesCommands + Drop>(
 ) -> Result<LogFile<T>, Refusal>
     requires nothing { T.stands into [] }
     requires allowance { allowance.bytes ≤ FILE_LIMIT }
-    ensures { Answers (IsLogFile T.stands) (IsLog allowance word name.now) (allowance.bytes ∷ []) (F.files files.old) (F.files files.new) result }
+    ensures { Answers (IsLogFile T.stands) (IsLog allowance word name.now) (allowance.bytes ∷ [])
+        (F.files files.old) (F.files files.new) result }
 {
     if let Err(fault) = files.open(name) {
         return Err(call_refusal(word, fault));
@@ -209,7 +215,8 @@ pub fn read_sum<F: Files>(
     files: &mut F,
 ) -> Result<LogFile<Total>, Refusal>
     requires { allowance.bytes ≤ FILE_LIMIT }
-    ensures { Answers (IsLogFile IsTotal) (IsLog allowance word name.now) (allowance.bytes ∷ []) (F.files files.old) (F.files files.new) result }
+    ensures { Answers (IsLogFile IsTotal) (IsLog allowance word name.now) (allowance.bytes ∷ [])
+        (F.files files.old) (F.files files.new) result }
 {
     let nothing = Total {
         sum: LogSum::new(alloc),

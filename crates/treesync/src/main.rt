@@ -1,7 +1,11 @@
 //! The program `treesync`: it gathers the words, makes the adapters over the system, and calls `run`.
 #![tactic(auto)]
 
+mod answer;
+mod apply;
 mod canon;
+mod conflicts;
+mod drill;
 mod input;
 mod joining;
 mod logs;
@@ -11,38 +15,66 @@ mod refusal;
 mod replay;
 mod report;
 mod run;
+mod seal;
 mod steer;
 #[cfg(test)]
 mod tests;
 mod transitions;
+mod writing;
 
-pub use self::refusal::{Finding, Refusal};
+pub use self::answer::Answer;
+pub use self::refusal::{Failure, Finding, Refusal};
 use self::report::report;
 pub use self::run::run;
 use std::io::{ErrorKind, Write};
 use std::process::ExitCode;
 use std::{env, io};
-use sync_port::{HostFiles, HostSink};
+use sync_path::NoMemory;
+use sync_port::{HostFiles, HostSink, Sink};
+use tool_words::{first_tree_word, operand_text, trees_wanted};
+use tree_port::{HostTree, Tree};
 
 fn main(rt: HostRuntime) -> ExitCode {
     let alloc = rt.alloc();
     let mut out = HostSink::new(rt.stdout());
     let mut err = HostSink::new(rt.stderr());
-    let status = match words_and_files(&rt) {
-        Ok((words, mut files)) => run(alloc, &words, &mut files, &mut out, &mut err),
-        Err(error) => report(&[], Err(refusal_of(&error)), &mut out, &mut err),
+    let status = match run_here(&rt, &mut out, &mut err) {
+        Ok(status) => status,
+        Err(error) => report(alloc, &[], Err(refusal_of(&error)), &mut out, &mut err),
     };
     ExitCode::from(status)
 }
 
-/// The words of the command line, without the program's name, and the files of the system.
-fn words_and_files(rt: &HostRuntime) -> io::Result<(Vec<String>, HostFiles<HostRuntime>)> {
+/// Runs the words of the command line over the files of the system and the trees below the folders that they name. A
+/// refusal is one of gathering them; nothing is written then.
+fn run_here<O: Sink, E: Sink>(rt: &HostRuntime, out: &mut O, err: &mut E) -> io::Result<u8> {
     let alloc = rt.alloc();
-    let mut words: Vec<String> = Vec::new(alloc);
+    let words = words_of(rt)?;
+    let first = first_tree_word(&words);
+    let mut trees: Vec<Box<dyn Tree>> = Vec::new(alloc);
+    for at in 0..trees_wanted(&words) {
+        let folder = operand_text(&words, first.saturating_add(at));
+        trees.push(Box::new(alloc, tree_of(rt, folder)?)?)?;
+    }
+    let mut files = HostFiles::new(rt.clone()?, alloc);
+    Ok(run(alloc, &words, &mut files, &mut trees, out, err))
+}
+
+/// The words of the command line, without the program's name.
+fn words_of(rt: &HostRuntime) -> io::Result<Vec<String>> {
+    let mut words: Vec<String> = Vec::new(rt.alloc());
     for word in env::args(rt)?.skip(1) {
         words.push(word)?;
     }
-    Ok((words, HostFiles::new(rt.clone()?, alloc)))
+    Ok(words)
+}
+
+/// The tree below a folder.
+fn tree_of(rt: &HostRuntime, folder: &str) -> io::Result<HostTree<HostRuntime>> {
+    match HostTree::new(rt.clone()?, rt.alloc(), folder) {
+        Ok(tree) => Ok(tree),
+        Err(NoMemory) => Err(io::Error::from(ErrorKind::OutOfMemory)),
+    }
 }
 
 /// Why the words could not be gathered: memory ran out, or a word is not UTF-8.

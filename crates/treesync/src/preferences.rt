@@ -24,7 +24,8 @@ pub const PREFS_LIMIT: usize = 536_870_912;
 
 /// The rules of a preference list's text.
 fn judge_preferences(alloc: Global, word: usize, bytes: &[u8]) -> Result<Vec<Rule>, Refusal>
-    ensures { IsJudged HasItems (λ a. a ≡ text_answer word (prefs_of (parts 10 bytes.now))) result }
+    ensures { IsJudged HasItems (λ a. a ≡ text_answer word (prefs_of (parts 10 bytes.now)))
+        result }
 {
     match read_prefs(alloc, bytes) {
         Ok(rules) => Ok(rules),

@@ -15,10 +15,21 @@ pub enum Refusal {
     InvalidArguments,
     /// Memory ran out.
     OutOfMemory,
-    /// The file could not be read.
-    ReadFailed { word: usize },
+    /// A call on a file or a tree was refused.
+    CallFailed(Failure),
     /// What was read is refused.
     Found(Finding),
+}
+
+/// Which calls were refused. Words count from 0.
+#[derive(Clone, Copy, Debug, PartialEq, Eq)]
+pub enum Failure {
+    /// The file could not be read.
+    ReadFailed { word: usize },
+    /// A call of the tree failed.
+    TreeFailed { word: usize },
+    /// The tree denied a call.
+    TreeDenied { word: usize },
 }
 
 /// What is wrong with what was read. Words count from 0; lines, commands, logs and rules from 1.
@@ -36,6 +47,10 @@ pub enum Finding {
     NoSuchLog { word: usize, number: usize },
     /// The log that a rule names has no net command at the rule's path.
     NoCommand { word: usize, number: usize },
+    /// The path holds none of the values at which the set's command there can begin or go on.
+    Diverged { word: usize, path: Path },
+    /// With the set done, the path holds something below what is no directory.
+    Blocked { word: usize, path: Path },
     /// The set has a command at the path that no log's net set has.
     NotDrawn { word: usize, path: Path },
     /// With the set done, the path holds something where it may not.

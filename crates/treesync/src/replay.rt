@@ -41,7 +41,8 @@ fn text_after(
     requires tree { IsRowTree snapshot.1.items }
     requires printable { AllByRecursion (IsRowOfVersion snapshot.0) snapshot.1.items }
     requires log { (read : ReadLog) × IsLogFile HasItems log read }
-    ensures { (read : ReadLog) → IsLogFile HasItems log read → IsJudged HasItems (IsAfter word (snapshot.0, snapshot.1.items) read) result }
+    ensures { (read : ReadLog) → IsLogFile HasItems log read →
+        IsJudged HasItems (IsAfter word (snapshot.0, snapshot.1.items) read) result }
 {
     let (version, rows) = snapshot;
     let mut tree = TreeMap::from_rows(alloc, rows)?;
@@ -73,7 +74,8 @@ pub fn replay<F: Files>(
     log: &str,
     files: &mut F,
 ) -> Result<Vec<u8>, Refusal>
-    ensures { Answers HasItems (IsReplay snap_word snap.now log_word log.now) (FILE_LIMIT ∷ FILE_LIMIT ∷ []) (F.files files.old) (F.files files.new) result }
+    ensures { Answers HasItems (IsReplay snap_word snap.now log_word log.now)
+        (FILE_LIMIT ∷ FILE_LIMIT ∷ []) (F.files files.old) (F.files files.new) result }
 {
     let snapshot = snapshot_file(alloc, snap_word, snap, files)?;
     let commands = Vec::new(alloc);

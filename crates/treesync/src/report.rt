@@ -1,18 +1,25 @@
 //! The one place that prints an answer and gives its status.
 
-ghost use Rattle.std.specs.Prelude.{◌≡◌, ◌+◌, ◌++◌, ◌≤◌, ◌<◌, ◌^◌, codes, decimal, map, string_bytes};
+ghost use Rattle.std.specs.Prelude.{◌≡◌, ◌+◌, ◌++◌, ◌≤◌, ◌<◌, ◌^◌, ℕ, List, Ok, IfOk, codes, decimal, length, map, string_bytes};
 ghost use Rattle.sync_port.specs.States.{IfKnown};
 ghost use Rattle.sync_port.specs.Ports.{SinkFaults};
 ghost use Rattle.sync_port.specs.Sending.{Sends};
-ghost use Rattle.treesync.specs.Ends.{Prints, PrintsAll, Says, line_of};
-ghost use Rattle.treesync.specs.Messages.{status_of, finding_status, message_of, finding_message, what_line, file_line, numbered_line, line_at, path_line, disagreement_line, can_add_line, kind_name};
+ghost use Rattle.treesync.specs.Answering.{output_of};
+ghost use Rattle.treesync.specs.Conflicts.{clash_lines};
+ghost use Rattle.treesync.specs.Ends.{Prints, PrintsAll, Says, end_line, line_of};
+ghost use Rattle.treesync.specs.Messages.{status_of, failure_status, finding_status, message_of, failure_message, finding_message, what_line, file_line, numbered_line, line_at, path_line, disagreement_line, can_add_line, kind_name};
+ghost use Rattle.treesync.specs.Outputs.{ClashLines, WholeText, status_in, text_in};
+ghost use Rattle.treesync.specs.Writing.{WriteFaults, WritesLines};
 ghost use Rattle.tool_words.specs.Operands.{text_at};
 ghost use Rattle.treesync.specs.Checks.{seen};
 ghost use Rattle.std.specs.List.{concat};
 
-use crate::{Finding, Refusal};
+use crate::writing::{WriteFault, write_clashes};
+use crate::{Answer, Failure, Finding, Refusal};
 use itoa::Buffer;
 use log_text::TextKind;
+use refluent::Joint;
+use std::alloc::Global;
 use sync_path::Path;
 use sync_port::{Sink, SinkFailed, send, send_path};
 use tool_words::{operand_text, texts};
@@ -25,6 +32,8 @@ fn finding_status(finding: &Finding) -> u8
         Finding::Text { .. } => 5,
         Finding::NoTree { .. } => 6,
         Finding::NoCommonTree { .. } => 7,
+        Finding::Diverged { .. } => 8,
+        Finding::Blocked { .. } => 9,
         Finding::TooLarge { .. } => 12,
         Finding::NoSuchLog { .. } => 13,
         Finding::NoCommand { .. } => 13,
@@ -35,13 +44,24 @@ fn finding_status(finding: &Finding) -> u8
     }
 }
 
+/// The status of a call that was refused.
+fn failure_status(failure: Failure) -> u8
+    ensures { result ≡ failure_status failure }
+{
+    match failure {
+        Failure::ReadFailed { .. } => 3,
+        Failure::TreeFailed { .. } => 10,
+        Failure::TreeDenied { .. } => 11,
+    }
+}
+
 /// The status of a refusal.
 fn status(refusal: &Refusal) -> u8
     ensures { result ≡ status_of refusal.now }
 {
     match refusal {
         Refusal::InvalidArguments => 2,
-        Refusal::ReadFailed { .. } => 3,
+        Refusal::CallFailed(failure) => failure_status(*failure),
         Refusal::OutOfMemory => 16,
         Refusal::Found(finding) => finding_status(finding),
     }
@@ -72,7 +92,8 @@ fn kind_text(kind: TextKind) -> &'static str
 /// Sends texts one after another.
 fn send_all<E: Sink>(err: &mut E, texts: &[&[u8]]) -> Result<(), SinkFailed>
     ensures faults { SinkFaults result (E.sink err.old) (E.sink err.new) }
-    ensures contents { IfKnown (E.sink err.old) (E.sink err.new) (Sends (concat (map (λ text. text.now) texts.now)) result) }
+    ensures contents { IfKnown (E.sink err.old) (E.sink err.new)
+        (Sends (concat (map (λ text. text.now) texts.now)) result) }
 {
     'texts: for text in texts {
         send(err, text)?;
@@ -83,7 +104,8 @@ fn send_all<E: Sink>(err: &mut E, texts: &[&[u8]]) -> Result<(), SinkFailed>
 /// Sends the line `treesync: WHAT`.
 fn say_what<'a, E: Sink>(err: &mut E, what: &'a str) -> Result<(), SinkFailed>
     ensures faults { SinkFaults result (E.sink err.old) (E.sink err.new) }
-    ensures contents { IfKnown (E.sink err.old) (E.sink err.new) (Sends (what_line what.now) result) }
+    ensures contents { IfKnown (E.sink err.old) (E.sink err.new)
+        (Sends (what_line what.now) result) }
 {
     let program: &'a str = texts::PROGRAM;
     let end: &'a str = texts::LINE_END;
@@ -98,7 +120,8 @@ fn say_of_file<'a, E: Sink>(
     what: &'a str,
 ) -> Result<(), SinkFailed>
     ensures faults { SinkFaults result (E.sink err.old) (E.sink err.new) }
-    ensures contents { IfKnown (E.sink err.old) (E.sink err.new) (Sends (file_line (text_at (map string_bytes words.now) place) what.now) result) }
+    ensures contents { IfKnown (E.sink err.old) (E.sink err.new)
+        (Sends (file_line (text_at (map string_bytes words.now) place) what.now) result) }
 {
     let program: &'a str = texts::PROGRAM;
     let word: &'a str = operand_text(words, place);
@@ -125,7 +148,9 @@ fn say_of_line<E: Sink>(
     what: &str,
 ) -> Result<(), SinkFailed>
     ensures faults { SinkFaults result (E.sink err.old) (E.sink err.new) }
-    ensures contents { IfKnown (E.sink err.old) (E.sink err.new) (Sends (numbered_line (text_at (map string_bytes words.now) place) (decimal number) what.now) result) }
+    ensures contents { IfKnown (E.sink err.old) (E.sink err.new)
+        (Sends (numbered_line (text_at (map string_bytes words.now) place) (decimal number)
+        what.now) result) }
 {
     let mut digits = Buffer::new();
     send_all(
@@ -145,7 +170,8 @@ fn say_of_line<E: Sink>(
 /// Sends texts one after another, then a path, and then the end of the line.
 fn send_line_at<E: Sink>(err: &mut E, front: &[&[u8]], path: &Path) -> Result<(), SinkFailed>
     ensures faults { SinkFaults result (E.sink err.old) (E.sink err.new) }
-    ensures contents { IfKnown (E.sink err.old) (E.sink err.new) (Sends (line_at (map (λ text. text.now) front.now) path.now) result) }
+    ensures contents { IfKnown (E.sink err.old) (E.sink err.new)
+        (Sends (line_at (map (λ text. text.now) front.now) path.now) result) }
 {
     send_all(err, front)?;
     send_path(err, path)?;
@@ -160,7 +186,8 @@ fn say_disagreement<E: Sink>(
     path: &Path,
 ) -> Result<(), SinkFailed>
     ensures faults { SinkFaults result (E.sink err.old) (E.sink err.new) }
-    ensures contents { IfKnown (E.sink err.old) (E.sink err.new) (Sends (disagreement_line first second path.now) result) }
+    ensures contents { IfKnown (E.sink err.old) (E.sink err.new)
+        (Sends (disagreement_line first second path.now) result) }
 {
     let mut first_digits = Buffer::new();
     let mut second_digits = Buffer::new();
@@ -188,7 +215,8 @@ fn say_of_path<E: Sink>(
     path: &Path,
 ) -> Result<(), SinkFailed>
     ensures faults { SinkFaults result (E.sink err.old) (E.sink err.new) }
-    ensures contents { IfKnown (E.sink err.old) (E.sink err.new) (Sends (path_line (text_at (map string_bytes words.now) place) what.now path.now) result) }
+    ensures contents { IfKnown (E.sink err.old) (E.sink err.new)
+        (Sends (path_line (text_at (map string_bytes words.now) place) what.now path.now) result) }
 {
     send_line_at(
         err,
@@ -211,7 +239,8 @@ fn say_can_add<E: Sink>(
     path: &Path,
 ) -> Result<(), SinkFailed>
     ensures faults { SinkFaults result (E.sink err.old) (E.sink err.new) }
-    ensures contents { IfKnown (E.sink err.old) (E.sink err.new) (Sends (can_add_line (text_at (map string_bytes words.now) place) log path.now) result) }
+    ensures contents { IfKnown (E.sink err.old) (E.sink err.new)
+        (Sends (can_add_line (text_at (map string_bytes words.now) place) log path.now) result) }
 {
     let mut digits = Buffer::new();
     send_line_at(
@@ -231,7 +260,8 @@ fn say_can_add<E: Sink>(
 /// Sends the line of a finding.
 fn say_finding<E: Sink>(err: &mut E, words: &[String], finding: &Finding) -> Result<(), SinkFailed>
     ensures faults { SinkFaults result (E.sink err.old) (E.sink err.new) }
-    ensures contents { IfKnown (E.sink err.old) (E.sink err.new) (Sends (finding_message (map string_bytes words.now) finding.now) result) }
+    ensures contents { IfKnown (E.sink err.old) (E.sink err.new)
+        (Sends (finding_message (map string_bytes words.now) finding.now) result) }
 {
     match finding {
         Finding::TooLarge { word } => say_of_file(err, words, *word, texts::TOO_LARGE),
@@ -258,6 +288,10 @@ fn say_finding<E: Sink>(err: &mut E, words: &[String], finding: &Finding) -> Res
                 texts::NO_SUCH_COMMAND,
             )
         }
+        Finding::Diverged { word, path } => {
+            say_of_path(err, words, *word, texts::DIVERGED_AT, path)
+        }
+        Finding::Blocked { word, path } => say_of_path(err, words, *word, texts::BLOCKED_AT, path),
         Finding::NotDrawn { word, path } => {
             say_of_path(err, words, *word, texts::NOT_DRAWN, path)
         }
@@ -271,15 +305,29 @@ fn say_finding<E: Sink>(err: &mut E, words: &[String], finding: &Finding) -> Res
     }
 }
 
+/// Sends the line of a call that was refused.
+fn say_failure<E: Sink>(err: &mut E, words: &[String], failure: Failure) -> Result<(), SinkFailed>
+    ensures faults { SinkFaults result (E.sink err.old) (E.sink err.new) }
+    ensures contents { IfKnown (E.sink err.old) (E.sink err.new)
+        (Sends (failure_message (map string_bytes words.now) failure) result) }
+{
+    match failure {
+        Failure::ReadFailed { word } => say_of_file(err, words, word, texts::READ_FAILED),
+        Failure::TreeFailed { word } => say_of_file(err, words, word, texts::TREE_FAILED),
+        Failure::TreeDenied { word } => say_of_file(err, words, word, texts::TREE_DENIED),
+    }
+}
+
 /// Sends the line of a refusal.
 fn say<E: Sink>(err: &mut E, words: &[String], refusal: &Refusal) -> Result<(), SinkFailed>
     ensures faults { SinkFaults result (E.sink err.old) (E.sink err.new) }
-    ensures contents { IfKnown (E.sink err.old) (E.sink err.new) (Sends (message_of (map string_bytes words.now) refusal.now) result) }
+    ensures contents { IfKnown (E.sink err.old) (E.sink err.new)
+        (Sends (message_of (map string_bytes words.now) refusal.now) result) }
 {
     match refusal {
         Refusal::InvalidArguments => say_what(err, texts::WORDS_REFUSED),
         Refusal::OutOfMemory => say_what(err, texts::OUT_OF_MEMORY),
-        Refusal::ReadFailed { word } => { say_of_file(err, words, *word, texts::READ_FAILED) }
+        Refusal::CallFailed(failure) => say_failure(err, words, *failure),
         Refusal::Found(finding) => say_finding(err, words, finding),
     }
 }
@@ -293,26 +341,97 @@ fn print<O: Sink>(out: &mut O, text: &[u8]) -> Result<(), SinkFailed>
     out.flush()
 }
 
+/// Prints a text and gives the status of that.
+fn print_text<O: Sink>(out: &mut O, text: &[u8]) -> u8
+    ensures later { (O.sink out.old).faults ≤ (O.sink out.new).faults }
+    ensures prints { Prints (Ok (WholeText text.now)) result (O.sink out.old) (O.sink out.new) }
+{
+    match print(out, text) {
+        Ok(()) => 0,
+        Err(_) => 4,
+    }
+}
+
+/// Prints the clashes of a joint, line by line, and flushes them.
+fn print_lines<O: Sink>(alloc: Global, out: &mut O, joint: &Joint) -> Result<u64, WriteFault>
+    ensures faults { WriteFaults result (O.sink out.old) (O.sink out.new) }
+    ensures contents { IfKnown (O.sink out.old) (O.sink out.new)
+        (WritesLines (text_in (ClashLines (clash_lines joint.now))) result) }
+    ensures number { IfOk result (λ n. n ≡ length (clash_lines joint.now)) }
+{
+    let number = write_clashes(alloc, joint, out)?;
+    match out.flush() {
+        Ok(()) => Ok(number),
+        Err(_) => Err(WriteFault::Failed),
+    }
+}
+
+/// The status of so many clashes.
+fn clash_status(number: u64) -> u8
+    ensures { (lines : List (List ℕ)) → number ≡ length lines →
+        result ≡ status_in (ClashLines lines) }
+{
+    if number == 0 { 0 } else { 1 }
+}
+
+/// Prints the clashes of a joint and gives the status of that.
+fn print_clashes<O: Sink>(alloc: Global, out: &mut O, joint: &Joint) -> u8
+    ensures later { (O.sink out.old).faults ≤ (O.sink out.new).faults }
+    ensures prints { Prints (Ok (ClashLines (clash_lines joint.now))) result (O.sink out.old)
+        (O.sink out.new) }
+{
+    match print_lines(alloc, out, joint) {
+        Ok(number) => clash_status(number),
+        Err(WriteFault::Failed) => 4,
+        Err(WriteFault::Memory) => 16,
+    }
+}
+
+/// Prints an answer and gives the status of that.
+fn print_answer<O: Sink>(alloc: Global, out: &mut O, answer: &Answer) -> u8
+    ensures later { (O.sink out.old).faults ≤ (O.sink out.new).faults }
+    ensures prints { Prints (Ok (output_of answer.now)) result (O.sink out.old) (O.sink out.new) }
+{
+    match answer {
+        Answer::Text(text) => print_text(out, text),
+        Answer::Clashes(joint) => print_clashes(alloc, out, joint),
+    }
+}
+
+/// Sends the line of the status with which printing ended.
+fn say_end<E: Sink>(err: &mut E, status: u8)
+    ensures later { (E.sink err.old).faults ≤ (E.sink err.new).faults }
+    ensures says { Says (end_line status) (E.sink err.old) (E.sink err.new) }
+{
+    if status == 4 {
+        let _ = say_what(err, texts::WRITE_FAILED);
+        return;
+    }
+    if status == 16 {
+        let _ = say_what(err, texts::OUT_OF_MEMORY);
+    }
+}
+
 /// Prints an answer, or says on `err` why there is none, and gives the status. Refusals name the words.
 pub fn report<O: Sink, E: Sink>(
+    alloc: Global,
     words: &[String],
-    answer: Result<Vec<u8>, Refusal>,
+    answer: Result<Answer, Refusal>,
     out: &mut O,
     err: &mut E,
 ) -> u8
     ensures out { (O.sink out.old).faults ≤ (O.sink out.new).faults }
     ensures err { (E.sink err.old).faults ≤ (E.sink err.new).faults }
-    ensures prints { Prints (seen (λ text. text.items) answer) result (O.sink out.old) (O.sink out.new) }
-    ensures says { Says (line_of (map string_bytes words.now) (seen (λ text. text.items) answer) result) (E.sink err.old) (E.sink err.new) }
+    ensures prints { Prints (seen output_of answer) result (O.sink out.old) (O.sink out.new) }
+    ensures says { Says (line_of (map string_bytes words.now) (seen output_of answer) result)
+        (E.sink err.old) (E.sink err.new) }
 {
     match answer {
-        Ok(text) => match print(out, &text) {
-            Ok(()) => 0,
-            Err(_) => {
-                let _ = say_what(err, texts::WRITE_FAILED);
-                4
-            }
-        },
+        Ok(answer) => {
+            let status = print_answer(alloc, out, &answer);
+            say_end(err, status);
+            status
+        }
         Err(refusal) => {
             let _ = say(err, words, &refusal);
             status(&refusal)

@@ -1,23 +1,33 @@
 //! The top call: the answer of the words, and its end.
 
-ghost use Rattle.std.specs.Prelude.{◌≡◌, ◌⊎◌, None, Ok, map, string_bytes};
+ghost use Rattle.std.specs.Prelude.{◌≡◌, ◌⊎◌, ◌≤◌, [], None, Ok, Option, Some, length, map, string_bytes};
+ghost use Rattle.sync_command.specs.Maps.{Store};
 ghost use Rattle.tool_words.specs.Jobs.{job_of};
 ghost use Rattle.tool_words.specs.LogCounts.{HasFewLogs};
 ghost use Rattle.tool_words.specs.Help.{help_text};
+ghost use Rattle.tool_words.specs.Trees.{job_folders};
+ghost use Rattle.treesync.specs.Answering.{StandsForOutput};
 ghost use Rattle.treesync.specs.Checks.{Answers, HasItems, IsJudged, IsOne};
-ghost use Rattle.treesync.specs.Headline.{CompletesMerge, PrintsMerger, PrintsSteered, PrintsTransition};
-ghost use Rattle.treesync.specs.Jobs.{Finds, IsAnswer, IsJobAnswer, limits_of, outside, Ran, Keeps, NoneFailed};
+ghost use Rattle.treesync.specs.Completeness.{CompletesJob};
+ghost use Rattle.treesync.specs.Headline.{KeepsUnready, PrintsApplied, PrintsMerger, PrintsRules, PrintsSealed, PrintsSteered, PrintsTransition, ResumesApply, TellsClashes};
+ghost use Rattle.treesync.specs.Jobs.{Finds, HasItsTrees, IsAnswer, IsJobAnswer, inputs, limits_of, outside, Ran, Keeps, NoneFailed};
 
-use crate::Refusal;
+use crate::answer::{of_joint, of_text};
+use crate::apply::apply;
 use crate::canon::canon;
+use crate::conflicts::conflicts;
+use crate::drill::drill;
 use crate::merge::merge;
 use crate::replay::replay;
 use crate::report::report;
+use crate::seal::seal;
 use crate::steer::steer;
 use crate::transitions::transition;
+use crate::{Answer, Refusal};
 use std::alloc::Global;
 use sync_port::{Files, Sink};
 use tool_words::{Job, WordFault, help, read_words};
+use tree_port::Tree;
 
 /// The help's text.
 fn help_answer(alloc: Global) -> Result<Vec<u8>, Refusal>
@@ -26,33 +36,40 @@ fn help_answer(alloc: Global) -> Result<Vec<u8>, Refusal>
     Ok(help(alloc)?)
 }
 
-/// The answer of a job.
-fn job_answer<F: Files>(alloc: Global, job: &Job, files: &mut F) -> Result<Vec<u8>, Refusal>
-    requires { HasFewLogs job.now }
-    ensures { Answers HasItems (IsJobAnswer job.now) (limits_of job.now) (F.files files.old) (F.files files.new) result }
+/// The answer of a job that names no folder.
+fn job_answer<F: Files>(alloc: Global, job: &Job, files: &mut F) -> Result<Answer, Refusal>
+    requires few { HasFewLogs job.now }
+    requires folders { job_folders job.now ≡ [] }
+    ensures { (tree : Option Store) → Answers StandsForOutput (IsJobAnswer job.now tree)
+        (limits_of job.now) (F.files files.old) (F.files files.new) result }
 {
     match job {
-        Job::Help => help_answer(alloc),
+        Job::Help => of_text(help_answer(alloc)),
         Job::Replay { snap, log } => {
             let snap_word = snap.place();
             let log_word = log.place();
-            replay(
+            of_text(replay(
                 alloc,
                 snap_word,
                 snap.as_str(),
                 log_word,
                 log.as_str(),
                 files,
-            )
+            ))
         }
-        Job::Canon { log } => canon(alloc, log.place(), log.as_str(), files),
-        Job::Merge { prefs, logs } => merge(alloc, prefs, logs, files),
+        Job::Canon { log } => of_text(canon(alloc, log.place(), log.as_str(), files)),
+        Job::Conflicts { logs } => of_joint(conflicts(alloc, logs, files)),
+        Job::Merge { prefs, logs } => of_text(merge(alloc, prefs, logs, files)),
         Job::Transition {
             number,
             prefs,
             logs,
-        } => transition(alloc, *number, prefs, logs, files),
-        Job::Steer { set, logs } => steer(alloc, set.place(), set.as_str(), logs, files),
+        } => of_text(transition(alloc, *number, prefs, logs, files)),
+        Job::Steer { set, logs } => {
+            of_text(steer(alloc, set.place(), set.as_str(), logs, files))
+        }
+        Job::Drill { seed, logs, steps } => of_text(drill(alloc, *seed, *logs, *steps)),
+        Job::Seal { .. } | Job::Apply { .. } => unreachable!(),
     }
 }
 
@@ -61,11 +78,19 @@ fn words_answer<F: Files>(
     alloc: Global,
     words: &[String],
     files: &mut F,
-) -> Result<Vec<u8>, Refusal>
-    ensures { Finds HasItems (job_of (map string_bytes words.now)) (F.files files.old) (F.files files.new) result }
+    trees: &mut Vec<Box<dyn Tree>>,
+) -> Result<Answer, Refusal>
+    ensures { HasItsTrees (map string_bytes words.now) trees.old.items →
+        Finds StandsForOutput (job_of (map string_bytes words.now))
+        (inputs (F.files files.old) (map (λ tree. live tree) trees.old.items))
+        (inputs (F.files files.new) (map (λ tree. live tree) trees.new.items)) result }
 {
     match read_words(alloc, words) {
-        Ok(job) => job_answer(alloc, &job, files),
+        Ok(job) => match &job {
+            Job::Seal { folder, log } => of_text(seal(alloc, folder, log, files, trees)),
+            Job::Apply { folder, set } => of_text(apply(alloc, folder, set, files, trees)),
+            _ => job_answer(alloc, &job, files),
+        },
         Err(WordFault::Refused) => Err(Refusal::InvalidArguments),
         Err(WordFault::Memory) => Err(Refusal::OutOfMemory),
     }
@@ -74,48 +99,118 @@ fn words_answer<F: Files>(
 /// Runs the job that the words are, and gives its status ("The answer of a job" in `docs/MODEL.md`, and the table
 /// of statuses in `docs/FORMATS.md`).
 ///
-/// `words` are those after the program's name, and name files of `files`. On status 0 the job's whole text was
+/// `words` are those after the program's name, and name files of `files`. On status 0 or 1 the job's whole text was
 /// written to `out`, which was flushed. After every other status but 4 `out` is as before, and after 4 it gained the
-/// first bytes of the text. On a refusal `err` gained its one line, or the first bytes of it where writing to `err`
-/// failed, which changes no status. What the files hold is as before, each file of the job was opened once at most,
-/// and no count of faults falls. Status 16 may come at any time. The words and the bytes under the names of `files`
-/// determine the right answer: there are never two.
+/// first bytes of the text; so it did after 16 where memory ran out between the lines of a `conflicts`. On a refusal
+/// `err` gained its one line, or the first bytes of it where writing to `err` failed, which changes no status. What the
+/// files hold is as before, each file of the job was opened once at most, and no count of faults falls. Status 16 may
+/// come at any time. The words and the bytes under the names of `files` determine the right answer: there are never two.
 ///
 /// Where some tree takes all logs of a `merge`, and they have what the rules name, it prints, unless memory runs out or
 /// a fault was counted, a set of the logs' net commands that fits every tree that takes them all and to which no
-/// further one can be added; and each such set is printed for some rules, those that `steer` prints for it.
+/// further one can be added; and each such set is printed for some rules, those that `steer` prints for it. With status
+/// 0 a `conflicts` has found that no two net commands of its logs clash, and with 1 that some do.
+///
+/// `trees` are those of the folders that the words name, in their order (`HasItsTrees`, which every clause asks for);
+/// only `seal` and `apply` have one, `seal` only looks at it, and every other job leaves them as they are. On a tree that
+/// is known, status 0 of `seal` means that the sealed list of its log was printed. Status 0 of `apply` means that the
+/// tree is the target of the set, and after each other status it is as before or ready for the same target, with nothing
+/// changed outside the set's nodes: so a run that was stopped between any two calls of the tree, and is run again, ends
+/// there. After the statuses 2, 3, 5, 6, 8, 9 and 12 the tree is as before. Status 10 or 11 comes only where the tree
+/// counted a fault or a denial.
 pub fn run<F: Files, O: Sink, E: Sink>(
     alloc: Global,
     words: &[String],
     files: &mut F,
+    trees: &mut Vec<Box<dyn Tree>>,
     out: &mut O,
     err: &mut E,
 ) -> u8
-    ensures ran { Ran (map string_bytes words.now)
-        (outside (F.files files.old) (O.sink out.old) (E.sink err.old))
-        (outside (F.files files.new) (O.sink out.new) (E.sink err.new)) result }
-    ensures keeps { Keeps (map string_bytes words.now)
-        (outside (F.files files.old) (O.sink out.old) (E.sink err.old))
-        (outside (F.files files.new) (O.sink out.new) (E.sink err.new)) }
-    ensures one { IsOne (IsAnswer (map string_bytes words.now)) }
-    ensures refused { result ≡ 2 → job_of (map string_bytes words.now) ≡ None }
-    ensures no_job { job_of (map string_bytes words.now) ≡ None → (result ≡ 2) ⊎ (result ≡ 16) }
-    ensures merges { PrintsMerger (map string_bytes words.now)
-        (outside (F.files files.old) (O.sink out.old) (E.sink err.old))
-        (outside (F.files files.new) (O.sink out.new) (E.sink err.new)) result }
-    ensures steers { PrintsSteered (map string_bytes words.now)
-        (outside (F.files files.old) (O.sink out.old) (E.sink err.old))
-        (outside (F.files files.new) (O.sink out.new) (E.sink err.new)) result }
-    ensures completes { CompletesMerge (map string_bytes words.now)
-        (outside (F.files files.old) (O.sink out.old) (E.sink err.old))
-        (outside (F.files files.new) (O.sink out.new) (E.sink err.new)) result }
-    ensures leads { PrintsTransition (map string_bytes words.now)
-        (outside (F.files files.old) (O.sink out.old) (E.sink err.old))
-        (outside (F.files files.new) (O.sink out.new) (E.sink err.new)) result }
-    ensures done { result ≡ 0 → NoneFailed
-        (outside (F.files files.old) (O.sink out.old) (E.sink err.old))
-        (outside (F.files files.new) (O.sink out.new) (E.sink err.new)) }
+    ensures ran { HasItsTrees (map string_bytes words.now) trees.old.items →
+        Ran (map string_bytes words.now)
+        (outside (F.files files.old) (map (λ tree. live tree) trees.old.items) (O.sink out.old)
+        (E.sink err.old))
+        (outside (F.files files.new) (map (λ tree. live tree) trees.new.items) (O.sink out.new)
+        (E.sink err.new)) result }
+    ensures keeps { HasItsTrees (map string_bytes words.now) trees.old.items →
+        Keeps (map string_bytes words.now)
+        (outside (F.files files.old) (map (λ tree. live tree) trees.old.items) (O.sink out.old)
+        (E.sink err.old))
+        (outside (F.files files.new) (map (λ tree. live tree) trees.new.items) (O.sink out.new)
+        (E.sink err.new)) }
+    ensures one { (tree : Store) → IsOne (IsAnswer (map string_bytes words.now) (Some tree)) }
+    ensures refused { HasItsTrees (map string_bytes words.now) trees.old.items → result ≡ 2 →
+        job_of (map string_bytes words.now) ≡ None }
+    ensures no_job { HasItsTrees (map string_bytes words.now) trees.old.items →
+        job_of (map string_bytes words.now) ≡ None →
+        (result ≡ 2) ⊎ (result ≡ 16) }
+    ensures merges { HasItsTrees (map string_bytes words.now) trees.old.items →
+        PrintsMerger (map string_bytes words.now)
+        (outside (F.files files.old) (map (λ tree. live tree) trees.old.items) (O.sink out.old)
+        (E.sink err.old))
+        (outside (F.files files.new) (map (λ tree. live tree) trees.new.items) (O.sink out.new)
+        (E.sink err.new)) result }
+    ensures steers { HasItsTrees (map string_bytes words.now) trees.old.items →
+        PrintsSteered (map string_bytes words.now)
+        (outside (F.files files.old) (map (λ tree. live tree) trees.old.items) (O.sink out.old)
+        (E.sink err.old))
+        (outside (F.files files.new) (map (λ tree. live tree) trees.new.items) (O.sink out.new)
+        (E.sink err.new)) result }
+    ensures completes { HasItsTrees (map string_bytes words.now) trees.old.items →
+        CompletesJob (map string_bytes words.now)
+        (outside (F.files files.old) (map (λ tree. live tree) trees.old.items) (O.sink out.old)
+        (E.sink err.old))
+        (outside (F.files files.new) (map (λ tree. live tree) trees.new.items) (O.sink out.new)
+        (E.sink err.new)) result }
+    ensures rules { HasItsTrees (map string_bytes words.now) trees.old.items →
+        PrintsRules (map string_bytes words.now)
+        (outside (F.files files.old) (map (λ tree. live tree) trees.old.items) (O.sink out.old)
+        (E.sink err.old))
+        (outside (F.files files.new) (map (λ tree. live tree) trees.new.items) (O.sink out.new)
+        (E.sink err.new)) result }
+    ensures leads { HasItsTrees (map string_bytes words.now) trees.old.items →
+        PrintsTransition (map string_bytes words.now)
+        (outside (F.files files.old) (map (λ tree. live tree) trees.old.items) (O.sink out.old)
+        (E.sink err.old))
+        (outside (F.files files.new) (map (λ tree. live tree) trees.new.items) (O.sink out.new)
+        (E.sink err.new)) result }
+    ensures clashes { HasItsTrees (map string_bytes words.now) trees.old.items →
+        TellsClashes (map string_bytes words.now)
+        (outside (F.files files.old) (map (λ tree. live tree) trees.old.items) (O.sink out.old)
+        (E.sink err.old))
+        (outside (F.files files.new) (map (λ tree. live tree) trees.new.items) (O.sink out.new)
+        (E.sink err.new)) result }
+    ensures applies { HasItsTrees (map string_bytes words.now) trees.old.items →
+        PrintsApplied (map string_bytes words.now)
+        (outside (F.files files.old) (map (λ tree. live tree) trees.old.items) (O.sink out.old)
+        (E.sink err.old))
+        (outside (F.files files.new) (map (λ tree. live tree) trees.new.items) (O.sink out.new)
+        (E.sink err.new)) result }
+    ensures resumes { HasItsTrees (map string_bytes words.now) trees.old.items →
+        ResumesApply (map string_bytes words.now)
+        (outside (F.files files.old) (map (λ tree. live tree) trees.old.items) (O.sink out.old)
+        (E.sink err.old))
+        (outside (F.files files.new) (map (λ tree. live tree) trees.new.items) (O.sink out.new)
+        (E.sink err.new)) result }
+    ensures unready { HasItsTrees (map string_bytes words.now) trees.old.items →
+        KeepsUnready (map string_bytes words.now)
+        (outside (F.files files.old) (map (λ tree. live tree) trees.old.items) (O.sink out.old)
+        (E.sink err.old))
+        (outside (F.files files.new) (map (λ tree. live tree) trees.new.items) (O.sink out.new)
+        (E.sink err.new)) }
+    ensures seals { HasItsTrees (map string_bytes words.now) trees.old.items →
+        PrintsSealed (map string_bytes words.now)
+        (outside (F.files files.old) (map (λ tree. live tree) trees.old.items) (O.sink out.old)
+        (E.sink err.old))
+        (outside (F.files files.new) (map (λ tree. live tree) trees.new.items) (O.sink out.new)
+        (E.sink err.new)) result }
+    ensures done { HasItsTrees (map string_bytes words.now) trees.old.items →
+        result ≤ 1 → NoneFailed
+        (outside (F.files files.old) (map (λ tree. live tree) trees.old.items) (O.sink out.old)
+        (E.sink err.old))
+        (outside (F.files files.new) (map (λ tree. live tree) trees.new.items) (O.sink out.new)
+        (E.sink err.new)) }
 {
-    let answer = words_answer(alloc, words, files);
-    report(words, answer, out, err)
+    let answer = words_answer(alloc, words, files, trees);
+    report(alloc, words, answer, out, err)
 }

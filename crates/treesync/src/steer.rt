@@ -20,7 +20,7 @@ use sync_port::Files;
 use tool_words::FileList;
 
 /// The net set of a log, which the word at the place `word` names.
-fn net_set(word: usize, log: LogFile<Total>) -> Result<CanonSet, Refusal>
+pub fn net_set(word: usize, log: LogFile<Total>) -> Result<CanonSet, Refusal>
     ensures { (read : ReadLog) → IsLogFile IsTotal log read →
         IsJudged (λ set cs. set ≡ cs) (IsNetSet word read) result }
 {

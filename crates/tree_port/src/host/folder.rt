@@ -170,6 +170,10 @@ impl<R: std::rt::Files + Clone + Drop> Folder<R> {
         match fs::metadata(&self.rt, self.top.as_str()) {
             Ok(data) if data.is_dir() => {}
             Ok(_) => return Err(TreeFault::Failed),
+            // what is named is no folder
+            Err(error) if error.kind() == ErrorKind::NotADirectory => {
+                return Err(TreeFault::Failed);
+            }
             Err(error) => return Err(fault_of(&error)),
         }
         self.discard(NEW)?;

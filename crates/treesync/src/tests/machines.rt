@@ -134,3 +134,55 @@ proj/src/a-b f:dash f:dash2
 proj/src/util.c - f:u2
 end 8
 ";
+
+/// The tree that all three began at.
+pub const COMMON: &str = "treesnap 1
+proj d
+proj/100%25 f:full
+proj/README.md f:Hello%0A
+proj/a%20b.txt f:one
+proj/caf%C3%A9 d
+proj/caf%C3%A9/menu f:tea
+proj/src d
+proj/src/a d
+proj/src/a/b f:slash
+proj/src/a-b f:dash
+proj/src/main.c f:int%20main;
+end 11
+";
+
+/// The tree at which all three end.
+pub const ENDED: &str = "treesnap 1
+proj d
+proj/100%25 f:fuller
+proj/README.md f:Hello%20you%0A
+proj/caf%C3%A9 d
+proj/caf%C3%A9/cake f:yes
+proj/caf%C3%A9/menu f:tea%20milk
+proj/docs d
+proj/docs/index f:i
+proj/notes d
+proj/notes/a%20b.txt f:two
+proj/src d
+proj/src/a d
+proj/src/a/c f:c
+proj/src/a-b f:dash2
+proj/src/main.c f:int%20main(void);
+proj/src/util.c f:u2
+end 16
+";
+
+/// The clashes of the three.
+pub const CLASHING: &str = "same proj/100%25 2 3
+below proj/100%25 proj/100%25/part 3 2
+same proj/README.md 1 2
+below proj/caf%C3%A9 proj/caf%C3%A9/cake 2 3
+below proj/caf%C3%A9 proj/caf%C3%A9/menu 2 1
+same proj/caf%C3%A9/menu 1 2
+same proj/docs 1 2
+below proj/docs proj/docs/index 2 1
+below proj/src/a proj/src/a/b 1 3
+below proj/src/a proj/src/a/c 1 2
+same proj/src/a/b 1 3
+clashes 11
+";

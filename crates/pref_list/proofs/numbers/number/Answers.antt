@@ -1,6 +1,7 @@
 use Rattle.std.proofs.Common.{ℕ, ◌≡◌, Some, subst}
 use Rattle.pref_list.specs.Numbers.{numbered}
 use Rattle.pref_list.proofs.Numbering.{added, added_number, added_kept}
+use Rattle.pref_list.proofs.InOrder.{added_before, before_next_place}
 use Rattle.pref_list.proofs.numbers.number.Goals as goal
 
 pub returns-in_ok-number-in-None-clause-chained : goal.returns-in_ok-number-in-None-clause-chained
@@ -12,3 +13,9 @@ returns-in_ok-number-in-None-clause-number c = added_number _ _ _ _ _ _ _ _ _ _ 
 
 pub returns-in_ok-number-in-None-clause-kept : goal.returns-in_ok-number-in-None-clause-kept
 returns-in_ok-number-in-None-clause-kept c = added_kept _ _ _ _ _ _ _ _ _ _ c.in_ok-number-in-None.ensures
+
+pub returns-in_ok-number-in-None-clause-before : goal.returns-in_ok-number-in-None-clause-before
+returns-in_ok-number-in-None-clause-before c = added_before _ _ _ _ _ _ _ _ _ c.in_ok-number-in-None.ensures c.requires.before
+
+pub returns-in-Some-clause-before : goal.returns-in-Some-clause-before
+returns-in-Some-clause-before c = before_next_place _ _ _ c.requires.before

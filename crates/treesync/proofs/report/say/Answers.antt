@@ -6,5 +6,5 @@ returns-in-InvalidArguments-clause-contents g c = rw c.in-InvalidArguments.is c.
 pub returns-in-OutOfMemory-clause-contents : goal.returns-in-OutOfMemory-clause-contents
 returns-in-OutOfMemory-clause-contents g c = rw c.in-OutOfMemory.is c.say_what-in-OutOfMemory.ensures.contents
 
-pub returns-in-ReadFailed-clause-contents : goal.returns-in-ReadFailed-clause-contents
-returns-in-ReadFailed-clause-contents g c = rw c.in-ReadFailed.is c.say_of_file.ensures.contents
+pub returns-in-CallFailed-clause-contents : goal.returns-in-CallFailed-clause-contents
+returns-in-CallFailed-clause-contents g c = rw c.in-CallFailed.is c.say_failure.ensures.contents

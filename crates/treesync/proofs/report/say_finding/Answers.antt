@@ -14,3 +14,6 @@ returns-in-CanAdd-clause-contents g c = rw c.in-CanAdd.is c.say_can_add.ensures.
 
 pub returns-in-NotTaken-clause-contents : goal.returns-in-NotTaken-clause-contents
 returns-in-NotTaken-clause-contents g c = rw c.in-NotTaken.is c.say_of_line-in-NotTaken.ensures.contents
+
+pub returns-in-Blocked-clause-contents : goal.returns-in-Blocked-clause-contents
+returns-in-Blocked-clause-contents g c = rw c.in-Blocked.is c.say_of_path-in-Blocked.ensures.contents

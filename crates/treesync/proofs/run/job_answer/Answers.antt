@@ -1,31 +1,51 @@
-use Rattle.treesync.specs.Checks.{HasItems}
-use Rattle.treesync.specs.Jobs.{IsJobAnswer, limits_of}
+use Rattle.std.proofs.Common.{◌≡◌, Ok}
+use Rattle.tool_words.specs.Help.{help_text}
+use Rattle.treesync.specs.Drill.{IsDrillOf}
+use Rattle.treesync.proofs.OutputLemmas.{answers_alone, answers_joint, answers_text}
 use Rattle.treesync.proofs.run.job_answer.Goals as goal
 
+pub returns-in-Help : goal.returns-in-Help
+returns-in-Help g c tree = rw c.in-Help.is (answers_alone (λ answer. answer ≡ Ok help_text) _ c.help_answer.result c.of_text.result c.of_text.ensures c.help_answer.ensures)
+
 pub returns-in-Replay : goal.returns-in-Replay
-returns-in-Replay g c =
-    rw (c.in-Replay.is, ← c.place-snap_word.ensures, ← c.place-log_word.ensures, ← c.as_str.ensures, ← c.as_str-in-Replay.ensures) c.replay.ensures
+returns-in-Replay g c tree =
+    rw (c.in-Replay.is, ← c.place-snap_word.ensures, ← c.place-log_word.ensures, ← c.as_str.ensures, ← c.as_str-in-Replay.ensures) (answers_text _ _ _ _ c.replay.result c.of_text-in-Replay.result c.of_text-in-Replay.ensures c.replay.ensures)
 
 pub returns-in-Canon : goal.returns-in-Canon
-returns-in-Canon g c = rw (c.in-Canon.is, ← c.place.ensures, ← c.as_str-in-Canon.ensures) c.canon.ensures
+returns-in-Canon g c tree = rw (c.in-Canon.is, ← c.place.ensures, ← c.as_str-in-Canon.ensures) (answers_text _ _ _ _ c.canon.result c.of_text-in-Canon.result c.of_text-in-Canon.ensures c.canon.ensures)
+
+pub drill-requires-clause-seed : goal.drill-requires-clause-seed
+drill-requires-clause-seed g c = let h = rw c.in-Drill.is at c.requires.few in h.0
+
+pub drill-requires-clause-logs : goal.drill-requires-clause-logs
+drill-requires-clause-logs g c = let h = rw c.in-Drill.is at c.requires.few in h.1.1
+
+pub returns-in-Drill : goal.returns-in-Drill
+returns-in-Drill g c tree = rw c.in-Drill.is (answers_alone (IsDrillOf c.in-Drill.seed c.in-Drill.logs c.in-Drill.steps) _ c.drill.result c.of_text-in-Drill.result c.of_text-in-Drill.ensures c.drill.ensures)
+
+pub conflicts-requires : goal.conflicts-requires
+conflicts-requires g c = rw c.in-Conflicts.is at c.requires.few
+
+pub returns-in-Conflicts : goal.returns-in-Conflicts
+returns-in-Conflicts g c tree = rw c.in-Conflicts.is (answers_joint _ _ _ _ c.conflicts.result c.of_joint.result c.of_joint.ensures c.conflicts.ensures)
 
 pub merge-requires : goal.merge-requires
-merge-requires g c = rw c.in-Merge.is at c.requires
+merge-requires g c = rw c.in-Merge.is at c.requires.few
 
 pub returns-in-Merge : goal.returns-in-Merge
-returns-in-Merge g c = rw c.in-Merge.is c.merge.ensures
+returns-in-Merge g c tree = rw c.in-Merge.is (answers_text _ _ _ _ c.merge.result c.of_text-in-Merge.result c.of_text-in-Merge.ensures c.merge.ensures)
 
 pub steer-requires : goal.steer-requires
-steer-requires g c = rw c.in-Steer.is at c.requires
+steer-requires g c = rw c.in-Steer.is at c.requires.few
 
 pub returns-in-Steer : goal.returns-in-Steer
-returns-in-Steer g c = rw (c.in-Steer.is, ← c.place-in-Steer.ensures, ← c.as_str-in-Steer.ensures) c.steer.ensures
+returns-in-Steer g c tree = rw (c.in-Steer.is, ← c.place-in-Steer.ensures, ← c.as_str-in-Steer.ensures) (answers_text _ _ _ _ c.steer.result c.of_text-in-Steer.result c.of_text-in-Steer.ensures c.steer.ensures)
 
 pub transition-requires-clause-number : goal.transition-requires-clause-number
-transition-requires-clause-number g c = let h = rw c.in-Transition.is at c.requires in h.0
+transition-requires-clause-number g c = let h = rw c.in-Transition.is at c.requires.few in h.0
 
 pub transition-requires-clause-few : goal.transition-requires-clause-few
-transition-requires-clause-few g c = let h = rw c.in-Transition.is at c.requires in h.1
+transition-requires-clause-few g c = let h = rw c.in-Transition.is at c.requires.few in h.1
 
 pub returns-in-Transition : goal.returns-in-Transition
-returns-in-Transition g c = rw c.in-Transition.is c.transition.ensures
+returns-in-Transition g c tree = rw c.in-Transition.is (answers_text _ _ _ _ c.transition.result c.of_text-in-Transition.result c.of_text-in-Transition.ensures c.transition.ensures)

@@ -1,0 +1,4 @@
+pub mod Planting
+pub mod Walking
+pub mod Counting
+pub mod Summing

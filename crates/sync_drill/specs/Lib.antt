@@ -1,0 +1,5 @@
+pub mod Draws
+pub mod BaseTrees
+pub mod DrillLogs
+pub mod Walks
+pub mod Summaries
