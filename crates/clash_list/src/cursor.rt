@@ -40,10 +40,10 @@ impl Cursor {
         requires { length rights.now ≤ self.old.right → self.old.right ≡ 0 }
         ensures turn { length rights.now ≤ self.new.right → self.new.right ≡ 0 }
         ensures next { (clash : ℕ → ℕ → Clash) → MatchOption result
-            (products_left clash (drop self.old.left lefts.now) (drop self.old.right rights.now) rights.now
-            ≡ [])
-            (λ pair. products_left clash (drop self.old.left lefts.now) (drop self.old.right rights.now)
-            rights.now ≡ clash pair.0 pair.1 ∷
+            (products_left clash (drop self.old.left lefts.now) (drop self.old.right rights.now)
+            rights.now ≡ [])
+            (λ pair. products_left clash (drop self.old.left lefts.now)
+            (drop self.old.right rights.now) rights.now ≡ clash pair.0 pair.1 ∷
             products_left clash (drop self.new.left lefts.now) (drop self.new.right rights.now)
             rights.now) }
     {

@@ -17,7 +17,7 @@ use Rattle.record_core.specs.declared.sealing.Standing.{Standing}
 use Rattle.record_core.specs.declared.sealing.Standing.TheVariants as standing
 use Rattle.record_core.specs.declared.sealing.Shown.{Shown}
 use Rattle.record_core.specs.declared.sealing.Shown.TheVariants as shown
-use Rattle.record_core.specs.Looks.{Asks, HoldsOld, IsAmong, IsFirstOf, IsFirstOut, IsWithin, Shows, StandsAs, StandsWell, Tells}
+use Rattle.record_core.specs.Looks.{Asks, HoldsOld, IsAmong, IsFirstOf, IsFirstOut, IsWithin, Shows, StandsAs, StandsWell, IsRightLook}
 use Rattle.record_core.proofs.Walks.{fell_on, none_fell}
 
 -- ---- the sum
@@ -171,7 +171,7 @@ look_begins undone xs s0 = record {
         none : (j : ℕ) → j < 0 → ⊥
         none j low = omega arith
 
-pub look_on : (undone : Option Change) (xs : List Touch) (k : ℕ) (x : Touch) (here : Standing) (found next : Shown) (s0 s1 s2 : TreeState) → slice_get xs k ≡ Some x → HasLooked undone xs k found s0 s1 → Asks (Ok here) s1 s2 → WhereKnown s1 (λ m. Tells (StandsAs (at m) undone x) (Ok here)) → IsWithin (k + 1) next →
+pub look_on : (undone : Option Change) (xs : List Touch) (k : ℕ) (x : Touch) (here : Standing) (found next : Shown) (s0 s1 s2 : TreeState) → slice_get xs k ≡ Some x → HasLooked undone xs k found s0 s1 → Asks (Ok here) s1 s2 → WhereKnown s1 (λ m. IsRightLook (StandsAs (at m) undone x) (Ok here)) → IsWithin (k + 1) next →
     ((t : Holding) (u : Option Change) (y : Touch) → slice_get xs k ≡ Some y → StandsAs t u y here → Shows t u xs k found → Shows t u xs (k + 1) next) → HasLooked undone xs (k + 1) next s0 s2
 look_on undone xs k x here found next s0 s1 s2 is looked asks stands within step = record {
   later = fell_on s0.counts s1.counts s2.counts looked.later asks.counts.later;
@@ -213,10 +213,10 @@ look_refused undone xs k found e s0 s1 s2 looked asks = record {
     again f h = ap Err (err_is f h)
 
 -- a denial that a known tree does not give
-pub never_denied : (undone : Option Change) (x : Touch) (e : TreeFault) (P : Store → Shown → Type 0) (t u : Option Store) → u ≡ t → IfHeld u (λ m. Tells (StandsAs (at m) undone x) (Err e)) → IfHeld t (λ m. Tells (P m) (Err e))
-never_denied undone x e P t u same h = go t e (subst (λ c. IfHeld c (λ m. Tells (StandsAs (at m) undone x) (Err e))) same h)
+pub never_denied : (undone : Option Change) (x : Touch) (e : TreeFault) (P : Store → Shown → Type 0) (t u : Option Store) → u ≡ t → IfHeld u (λ m. IsRightLook (StandsAs (at m) undone x) (Err e)) → IfHeld t (λ m. IsRightLook (P m) (Err e))
+never_denied undone x e P t u same h = go t e (subst (λ c. IfHeld c (λ m. IsRightLook (StandsAs (at m) undone x) (Err e))) same h)
   where
-    go : (t : Option Store) (e : TreeFault) → IfHeld t (λ m. Tells (StandsAs (at m) undone x) (Err e)) → IfHeld t (λ m. Tells (P m) (Err e))
+    go : (t : Option Store) (e : TreeFault) → IfHeld t (λ m. IsRightLook (StandsAs (at m) undone x) (Err e)) → IfHeld t (λ m. IsRightLook (P m) (Err e))
     go None e h = tt
     go (Some m) tree.Failed h = tt
     go (Some m) tree.Denied h = absurd h

@@ -22,7 +22,7 @@ use Rattle.record_core.specs.declared.faults.SealFault.{SealFault}
 use Rattle.record_core.specs.declared.faults.SealFault.TheVariants.{Text, Broken, Diverged, Failed, Denied, Memory}
 use Rattle.record_core.specs.declared.sealing.Shown.{Shown}
 use Rattle.record_core.specs.declared.sealing.Shown.TheVariants as shown
-use Rattle.record_core.specs.Looks.{HoldsOld, IsAmong, IsDiverged, IsFirstOut, IsShownWithin, Shows, StandsWell, Tells, open_command}
+use Rattle.record_core.specs.Looks.{HoldsOld, IsAmong, IsDiverged, IsFirstOut, IsShownWithin, Shows, StandsWell, IsRightLook, open_command}
 use Rattle.record_core.specs.Seals.{Diverges, FailsLog, FailsText, HoldsLast, IsInOrder, IsLogOf, IsSealed, IsUndone, OpenLog, SealsLog}
 
 -- ---- lists
@@ -195,7 +195,7 @@ stands_as log s cs ds e f st = subst (StandsFor s) (f ∙ sym e) st
 undone_as : (log : OpenLog) (cs es : List Change) (ended : Bool) (u : Option Change) → log.commands ≡ cs → log.ended ≡ ended → es ≡ cs → u ≡ open_command ended es → u ≡ open_command log.ended log.commands
 undone_as log cs es ended u e b f is = is ∙ ap (open_command ended) (f ∙ sym e) ∙ ap (λ x. open_command x log.commands) (sym b)
 
-shows_as : (held : Option Store) (u v : Option Change) (xs : List Touch) (k : ℕ) (found wanted : Shown) → u ≡ v → found ≡ wanted → IfHeld held (λ m. Tells (Shows (at m) u xs k) (Ok found)) → IfHeld held (λ m. Shows (at m) v xs k wanted)
+shows_as : (held : Option Store) (u v : Option Change) (xs : List Touch) (k : ℕ) (found wanted : Shown) → u ≡ v → found ≡ wanted → IfHeld held (λ m. IsRightLook (Shows (at m) u xs k) (Ok found)) → IfHeld held (λ m. Shows (at m) v xs k wanted)
 shows_as held u v xs k found wanted e f h = subst (λ v. IfHeld held (λ m. Shows (at m) v xs k wanted)) e (subst (λ w. IfHeld held (λ m. Shows (at m) u xs k w)) f h)
 
 held_as : {P Q : Store → Type 0} (held : Option Store) → ((m : Store) → P m → Q m) → IfHeld held P → IfHeld held Q
@@ -203,7 +203,7 @@ held_as None f h = tt
 held_as (Some m) f h = f m h
 
 pub all_done : (log : OpenLog) (cs ds es : List Change) (ended : Bool) (s : Sum) (u : Option Change) (found : Shown) (held : Option Store) → log.commands ≡ cs → log.ended ≡ ended → ds ≡ cs → es ≡ cs → StandsFor s ds → u ≡ open_command ended es → found ≡ shown.Done →
-    IfHeld held (λ m. Tells (Shows (at m) u s.touched (length s.touched)) (Ok found)) → SealsLog log held cs
+    IfHeld held (λ m. IsRightLook (Shows (at m) u s.touched (length s.touched)) (Ok found)) → SealsLog log held cs
 all_done log cs ds es ended s u found held e b f g st is f' shows =
     let st' = stands_as log s cs ds e f st in
     record {
@@ -213,7 +213,7 @@ all_done log cs ds es ended s u found held e b f g st is f' shows =
     }
 
 pub last_undone : (log : OpenLog) (cs ds es rest : List Change) (ended : Bool) (s : Sum) (u : Option Change) (found : Shown) (held : Option Store) → log.commands ≡ cs → log.ended ≡ ended → ds ≡ cs → es ≡ cs → StandsFor s ds → u ≡ open_command ended es → found ≡ shown.Undone →
-    IfHeld held (λ m. Tells (Shows (at m) u s.touched (length s.touched)) (Ok found)) → ((c : Change) → open_command false cs ≡ Some c → cs ≡ rest ++ c ∷ []) → SealsLog log held rest
+    IfHeld held (λ m. IsRightLook (Shows (at m) u s.touched (length s.touched)) (Ok found)) → ((c : Change) → open_command false cs ≡ Some c → cs ≡ rest ++ c ∷ []) → SealsLog log held rest
 last_undone log cs ds es rest ended s u found held e b f g st is f' shows front =
     let st' = stands_as log s cs ds e f st in
     record {
@@ -224,7 +224,7 @@ last_undone log cs ds es rest ended s u found held e b f g st is f' shows front 
     }
 
 pub one_out : (log : OpenLog) (cs ds es : List Change) (ended : Bool) (s : Sum) (u : Option Change) (found : Shown) (place : ℕ) (held : Option Store) (fault : SealFault) → log.commands ≡ cs → log.ended ≡ ended → ds ≡ cs → es ≡ cs → StandsFor s ds → u ≡ open_command ended es →
-    found ≡ shown.Out place → IfHeld held (λ m. Tells (Shows (at m) u s.touched (length s.touched)) (Ok found)) → place < length s.touched → IsDiverged s.touched place fault → FailsLog log held fault
+    found ≡ shown.Out place → IfHeld held (λ m. IsRightLook (Shows (at m) u s.touched (length s.touched)) (Ok found)) → place < length s.touched → IsDiverged s.touched place fault → FailsLog log held fault
 one_out log cs ds es ended s u found place held fault e b f g st is f' shows low div = go fault div
   where
     st' : StandsFor s log.commands

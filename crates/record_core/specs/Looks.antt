@@ -51,11 +51,11 @@ pub record Asks {T : Type 0} (result : Result T TreeFault) (before now : TreeSta
   pub contents : now.contents ≡ before.contents
 
 -- the answer is right, and no denial came
-abbrev pub Tells : {T : Type 0} → (T → Type 0) → Result T TreeFault → Type 0
-Tells right (Ok x) = right x
-Tells right (Err tree.Failed) = ⊤
-Tells right (Err tree.Denied) = ⊥
-Tells right (Err tree.Memory) = ⊤
+abbrev pub IsRightLook : {T : Type 0} → (T → Type 0) → Result T TreeFault → Type 0
+IsRightLook right (Ok x) = right x
+IsRightLook right (Err tree.Failed) = ⊤
+IsRightLook right (Err tree.Denied) = ⊥
+IsRightLook right (Err tree.Memory) = ⊤
 
 -- ---- one node
 

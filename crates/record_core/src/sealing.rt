@@ -12,7 +12,7 @@ ghost use Rattle.canon_set.specs.Sums.{StandsFor};
 ghost use Rattle.canon_set.specs.Touches.{lent_touch};
 ghost use Rattle.canon_set.specs.declared.touches.Touch.{Touch};
 ghost use Rattle.tree_port.specs.States.{WhereKnown};
-ghost use Rattle.record_core.specs.Looks.{Asks, HoldsOld, IsDiverged, IsFirstOf, IsShownWithin, IsWithin, Shows, StandsAs, SumsUp, Tells, open_command};
+ghost use Rattle.record_core.specs.Looks.{Asks, HoldsOld, IsDiverged, IsFirstOf, IsShownWithin, IsWithin, Shows, StandsAs, SumsUp, IsRightLook, open_command};
 ghost use Rattle.record_core.specs.Seals.{FailsLog, FailsText, LooksOnly, OpenLog, SealsLog, SealsText};
 
 use crate::SealFault;
@@ -71,7 +71,7 @@ fn open_command(commands: &[Command], ended: bool) -> Option<&Command>
 fn holds(tree: &mut Box<dyn Tree>, path: &Path, value: &Value) -> Result<bool, TreeFault>
     ensures asks { Asks result (live tree.old) (live tree.new) }
     ensures known { WhereKnown (live tree.old)
-        (λ m. Tells (λ b. IsTrue b ↔ (at m path.now ≡ value.now)) result) }
+        (λ m. IsRightLook (λ b. IsTrue b ↔ (at m path.now ≡ value.now)) result) }
 {
     tree.holds(path, value)
 }
@@ -84,7 +84,7 @@ fn holds_old(
 ) -> Result<bool, TreeFault>
     ensures asks { Asks result (live tree.old) (live tree.new) }
     ensures known { WhereKnown (live tree.old)
-        (λ m. Tells (λ b. IsTrue b ↔ HoldsOld (at m) (option_copied undone.entry) path.now)
+        (λ m. IsRightLook (λ b. IsTrue b ↔ HoldsOld (at m) (option_copied undone.entry) path.now)
         result) }
 {
     match undone {
@@ -106,7 +106,7 @@ fn standing_of(
 ) -> Result<Standing, TreeFault>
     ensures asks { Asks result (live tree.old) (live tree.new) }
     ensures known { WhereKnown (live tree.old)
-        (λ m. Tells (StandsAs (at m) (option_copied undone.entry) (lent_touch touch.entry))
+        (λ m. IsRightLook (StandsAs (at m) (option_copied undone.entry) (lent_touch touch.entry))
         result) }
 {
     if holds(tree, touch.path, touch.last)? {
@@ -167,7 +167,7 @@ fn look(
     ensures asks { Asks result (live tree.old) (live tree.new) }
     ensures within { IsShownWithin (length sum.now.touched) result }
     ensures known { WhereKnown (live tree.old)
-        (λ m. Tells (Shows (at m) (option_copied undone.entry) sum.now.touched
+        (λ m. IsRightLook (Shows (at m) (option_copied undone.entry) sum.now.touched
         (length sum.now.touched)) result) }
 {
     let mut shown = Shown::Done;

@@ -16,8 +16,11 @@ pub fn fitting_tree_is_ready()
 /// Let a tree be ready for a set, and let another differ from it at one node of the set only, by one step of that
 /// node's command. Then the other is ready too, with the same target, and the work is less by one.
 pub fn step_leaves_a_tree_ready()
-    ensures { (m n : Store) → IsTreeMap m → IsTreeMap n → (cs : List Change) → IsTrue (one_each cs) →
-        IsTrue (all_change cs) → IsReady (at m) cs → (p : Node) (c : Change) → command_at cs p ≡ Some c →
-        ((q : Node) → same_path q p ≡ false → at n q ≡ at m q) → at m p ≢ at n p → IsStep c (at m p) (at n p) →
-        IsReady (at n) cs × (after cs (at n) ≡ after cs (at m)) × (work cs (at m) ≡ work cs (at n) + 1) }
+    ensures { (m n : Store) → IsTreeMap m → IsTreeMap n → (cs : List Change) →
+        IsTrue (one_each cs) → IsTrue (all_change cs) → IsReady (at m) cs →
+        (p : Node) (c : Change) → command_at cs p ≡ Some c →
+        ((q : Node) → same_path q p ≡ false → at n q ≡ at m q) →
+        at m p ≢ at n p → IsStep c (at m p) (at n p) →
+        IsReady (at n) cs × (after cs (at n) ≡ after cs (at m)) ×
+        (work cs (at m) ≡ work cs (at n) + 1) }
 {}

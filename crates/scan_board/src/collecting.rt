@@ -33,7 +33,8 @@ fn add_taken(
 ) -> Result<(), NoMemory>
     requires { IsPick joint.now.sets pick }
     ensures { (c : Change) → command_of joint.now.sets pick ≡ Some c → OnOk result
-        (commands.new.items ≡ if is_taken_mark mark then commands.old.items ++ c ∷ [] else commands.old.items) }
+        (commands.new.items ≡
+        if is_taken_mark mark then commands.old.items ++ c ∷ [] else commands.old.items) }
 {
     if is_taken(mark) {
         let command = command_at(joint, pick);

@@ -444,7 +444,8 @@ fn take<L: Ledger>(
     ensures board { IsBoard board.new }
     ensures own { mark_of board.new command ≡ Mark.Taken }
     ensures others { (i : ℕ) → i < command_count board.old.tables → (i ≡ command → ⊥) →
-        (mark_of board.new i ≡ mark_of board.old i) ⊎ ((mark_of board.old i ≡ Mark.Open) × (mark_of board.new i ≡ Mark.Blocked)) }
+        (mark_of board.new i ≡ mark_of board.old i) ⊎
+        ((mark_of board.old i ≡ Mark.Open) × (mark_of board.new i ≡ Mark.Blocked)) }
     ensures complete { IsDeep board.old → IsShutOk board.old → (j : ℕ) →
         j < command_count board.old.tables → Clash board.old.tables command j →
         is_open board.new j ≡ false }

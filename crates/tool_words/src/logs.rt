@@ -89,8 +89,10 @@ fn logs_matches<'a>(
     words: &'a [String],
 ) -> Result<ArgMatches<'a>, WordFault>
     requires parts { is_some (parts_of (operands_of words.now)) ≡ true }
-    ensures ok { IfOk result (λ matches. option_map part_texts (parts_of (operands_of words.entry.now))
-        ≡ file_and_texts (first_value (found_of matches) (codes "prefs")) (option_map raw_values (matched_of (found_of matches) (codes "logs")))) }
+    ensures ok { IfOk result (λ matches. let found = found_of matches in
+        option_map part_texts (parts_of (operands_of words.entry.now)) ≡
+        file_and_texts (first_value found (codes "prefs"))
+        (option_map raw_values (matched_of found (codes "logs")))) }
     ensures refused { IsErrOf result Refused → prefs_logs (operands_of words.entry.now) ≡ None }
 {
     let command = logs_command(alloc, name)?;
@@ -105,9 +107,11 @@ fn first_and_logs_matches<'a>(
     words: &'a [String],
 ) -> Result<ArgMatches<'a>, WordFault>
     requires parts { is_some (parts_of (operands_of words.now)) ≡ true }
-    ensures ok { IfOk result (λ matches. option_map part_texts (parts_of (operands_of words.entry.now))
-        ≡ file_first_and_texts (first_value (found_of matches) (codes "prefs")) (first_value (found_of matches) (codes "first"))
-        (option_map raw_values (matched_of (found_of matches) (codes "logs")))) }
+    ensures ok { IfOk result (λ matches. let found = found_of matches in
+        option_map part_texts (parts_of (operands_of words.entry.now)) ≡
+        file_first_and_texts (first_value found (codes "prefs"))
+        (first_value found (codes "first"))
+        (option_map raw_values (matched_of found (codes "logs")))) }
     ensures refused { IsErrOf result Refused →
         prefs_first_logs (operands_of words.entry.now) ≡ None }
 {

@@ -117,7 +117,8 @@ fn two_operands_matches<'a>(
     words: &'a [String],
 ) -> Result<ArgMatches<'a>, WordFault>
     requires plain { list_all is_plain (drop 1 (texts_of words.now)) ≡ true }
-    ensures ok { IfOk result (λ matches. let found = found_of matches in pair_of (drop 1 (texts_of words.entry.now))
+    ensures ok { IfOk result (λ matches. let found = found_of matches in
+        pair_of (drop 1 (texts_of words.entry.now))
         ≡ both_of (first_value found (codes "first")) (first_value found (codes "second"))) }
     ensures two { IfOk result (λ _.
         is_some (pair_of (drop 1 (texts_of words.entry.now))) ≡ true) }

@@ -38,7 +38,8 @@ pub fn transition_leads_to_the_merger()
         (log : List Change) → IsAmong log logs →
         (merger : List Change) → IsSubset merger (drawn_commands logs) → Fits (at m) merger →
         Fits (after (net log) (at m)) (transition (at m) (net log) merger) ×
-        (after (transition (at m) (net log) merger) (after (net log) (at m)) ≡ after merger (at m)) }
+        (after (transition (at m) (net log) merger) (after (net log) (at m)) ≡
+        after merger (at m)) }
 {}
 
 /// The transition is one list for all common trees.

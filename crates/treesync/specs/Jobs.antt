@@ -90,7 +90,7 @@ abbrev pub held_tree : List TreeState → Option Store
 held_tree [] = None
 held_tree (tree ∷ trees) = tree.contents
 
--- the count of the first tree rose
+-- the count of the first tree was counted
 abbrev pub IsCountedByFirst : (Counts → ℕ) → List TreeState → List TreeState → Type 0
 IsCountedByFirst count (tree ∷ trees) (now ∷ later) = IsCounted (count tree.counts) (count now.counts)
 IsCountedByFirst count trees later = ⊥

@@ -146,8 +146,9 @@ fn end_log<T: TakesCommands + Drop>(
     size: usize,
     most: usize,
 ) -> Result<LogFile<T>, Refusal>
-    ensures { (text : List ℕ) → IsFed T.stands intake.reader intake.into text → length text ≡ size →
-        IsJudged (IsLogFile T.stands) (λ answer. answer ≡ log_answer most word size (log_of (parts 10 text))) result }
+    ensures { (text : List ℕ) → IsFed T.stands intake.reader intake.into text →
+        length text ≡ size → IsJudged (IsLogFile T.stands)
+        (λ answer. answer ≡ log_answer most word size (log_of (parts 10 text))) result }
 {
     let LogIntake { reader, into } = intake;
     let version = reader.version().unwrap_or(Version::One);

@@ -105,7 +105,8 @@ fn is_child(above: Option<&Path>, path: &Path) -> bool
 /// Whether the path at the place comes after the one before it.
 fn follows(paths: &[Path], place: usize) -> bool
     requires { place < length paths.now }
-    ensures { IsTrue result → (k : ℕ) (d : Node) → place ≡ k + 1 → comes_before (slice_index_or paths.now k d) (slice_index_or paths.now place d) ≡ true }
+    ensures { IsTrue result → (k : ℕ) (d : Node) → place ≡ k + 1 →
+        comes_before (slice_index_or paths.now k d) (slice_index_or paths.now place d) ≡ true }
 {
     place == 0 || paths[place - 1].cmp(&paths[place]).is_lt()
 }
