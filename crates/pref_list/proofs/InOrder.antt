@@ -1,9 +1,9 @@
 -- Picks that go by their logs and places, one more at a time.
-use Rattle.std.proofs.Common.{◌≡◌, ℕ, ◌<◌, ◌+◌, List, [], ◌∷◌, ◌++◌, length, Option, Some, sym, ap, ◌∙◌, subst, arith, ◌⊎◌, inl, inr}
+use Rattle.std.proofs.Common.{◌≡◌, ℕ, ◌<◌, ◌+◌, List, [], ◌∷◌, ◌++◌, length, Option, Some, sym, ap, subst, arith, ◌⊎◌, inl, inr}
 use Rattle.std.specs.List.{slice_get}
 use Rattle.std.proofs.lemmas.Option.{slice_get_within}
 use Rattle.refluent.specs.declared.joint.Pick.{Pick}
-use Rattle.pref_list.specs.Numbers.{AddsPick, AreBefore, AreInOrder, ComesBefore}
+use Rattle.pref_list.specs.Numbers.{AddsPick, AreBefore, ComesBefore}
 use Rattle.pref_list.proofs.Ends.{last_or}
 
 pub none_before : (log place : ℕ) → AreBefore [] log place

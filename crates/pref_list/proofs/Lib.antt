@@ -2,6 +2,9 @@ pub mod RankingLaws
 pub mod Staging
 pub mod Places
 pub mod Named
+pub mod NetPicks
+pub mod PlaceLists
+pub mod OldValues
 pub mod Ends
 pub mod Numbering
 pub mod InOrder

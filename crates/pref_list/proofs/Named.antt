@@ -1,5 +1,5 @@
 -- The net commands of joined logs name nodes of the joint.
-use Rattle.std.proofs.Common.{◌≡◌, ℕ, zero, suc, ◌+◌, ◌-◌, ◌<◌, Bool, true, false, ◌||◌, List, [], ◌∷◌, Some, refl, sym, ap, subst, ◌∙◌, arith}
+use Rattle.std.proofs.Common.{◌≡◌, ℕ, zero, suc, ◌+◌, ◌-◌, ◌<◌, Bool, true, false, ◌||◌, List, [], ◌∷◌, Some, refl, sym, ap, ◌∙◌, arith}
 use Rattle.std.specs.Prelude.{if◌then◌else◌, is_some}
 use Rattle.std.specs.List.{slice_get}
 use Rattle.sync_path.specs.Paths.{Node, same_path}
@@ -18,7 +18,7 @@ use Rattle.refluent.specs.Sets.{is_in}
 use Rattle.refluent.specs.Joints.{Joined, IsJoint, concerns, value_in, some_if, net_sets}
 use Rattle.refluent.specs.CommonTrees.{least_common_tree}
 use Rattle.pref_list.specs.Ranking.{set_from, set_of}
-use Rattle.pref_list.specs.Numbers.{IsNodeAt, AreNamed}
+use Rattle.pref_list.specs.Numbers.{IsNodeAt}
 
 right : (a b : Bool) → b ≡ true → (a || b) ≡ true
 right a b e = grind arith
@@ -58,7 +58,8 @@ placed (row ∷ rows) p v e = go (same_path p row.path) (same_path_is p row.path
     go true f e rest = (0, ap Some (sym (f refl)))
     go false f e rest = let r = rest e in (suc r.0, r.1)
 
-pub named : (j : Joined) → IsJoint j → (l : ℕ) → AreNamed j.nodes (set_from j.sets l)
+-- each net command names a node of the joint
+pub named : (j : Joined) → IsJoint j → (l i : ℕ) (c : Change) → slice_get (set_from j.sets l) i ≡ Some c → (place : ℕ) × IsNodeAt j.nodes place c.node
 named j is l i c e = placed j.nodes c.node (least_common_tree is.logs c.node)
     (is.stands.nodes c.node ∙ ap (λ b. some_if b (least_common_tree is.logs c.node)) (concerned is.logs l i c (ap (λ s. slice_get (set_from s l) i) (sym is.stands.sets) ∙ e)))
 
@@ -76,9 +77,6 @@ set_at_number sets (suc k) set low e = set_at sets k set (ap (slice_get sets) (l
 
 pub set_of_next : (sets : List (List Change)) (l : ℕ) → set_of sets (l + 1) ≡ set_from sets l
 set_of_next sets l = ap (set_of sets) (let n : l + 1 ≡ suc l = omega arith in n)
-
-pub named_next : (j : Joined) → IsJoint j → (l : ℕ) (cs : List Change) → cs ≡ set_of j.sets (l + 1) → AreNamed j.nodes cs
-named_next j is l cs e = subst (AreNamed j.nodes) (sym (e ∙ set_of_next j.sets l)) (named j is l)
 
 -- what is in a set stands at a place of it
 pub place_from_in : (cs : List Change) (c : Change) → is_in cs c ≡ true → (i : ℕ) × (slice_get cs i ≡ Some c)

@@ -8,6 +8,7 @@ use Rattle.std.proofs.lemmas.Bool.{cases_lt}
 use Rattle.std.proofs.lemmas.List.{length-set}
 use Rattle.sync_path.specs.Paths.{Node}
 use Rattle.sync_command.specs.declared.commands.Row.{Row}
+use Rattle.sync_command.specs.declared.values.Value.{Value}
 use Rattle.sync_command.specs.Changes.{Change}
 use Rattle.refluent.specs.Joints.{is_ascending}
 use Rattle.refluent.specs.declared.joint.Pick.{Pick}
@@ -115,6 +116,19 @@ module _ (sets : List (List Change)) (picks : List Pick) (nexts : List (Option �
 
   pub walk_found : (d : Pick) (x : Change) (r : Bool) → command_of sets (get_or picks m d) ≡ Some x → IsTrue r ↔ (x ≡ c) → r ≡ true → numbered sets picks m ≡ Some c
   walk_found d x r e says right_r = numbered_at sets picks m (get_or picks m d) (slice_get-get_or picks m d walk_low) ∙ e ∙ ap Some (says.0 right_r)
+
+  -- the command of the number names the node, so that the new values alone tell whether it is the one looked for
+  pub walk_same : (d : Pick) (x : Change) (r : Bool) (v w : Value) → command_of sets (get_or picks m d) ≡ Some x → (x.node ≡ c.node → x.new ≡ c.new → x ≡ c) → v ≡ x.new → w ≡ c.new → IsTrue r ↔ (v ≡ w) → IsTrue r ↔ (x ≡ c)
+  walk_same d x r v w e whole left right says = (λ t. whole node (sym left ∙ says.0 t ∙ right), λ is. says.1 (left ∙ ap (λ y. y.new) is ∙ sym right))
+    where
+      same : {a b : Change} → Some a ≡ Some b → a ≡ b
+      same e = cc
+
+      last : Names sets picks m c.node
+      last = last_names sets picks c.node from.bound m at is from.last
+
+      node : x.node ≡ c.node
+      node = ap (λ y. y.node) (same (sym e ∙ sym (numbered_at sets picks m (get_or picks m d) (slice_get-get_or picks m d walk_low)) ∙ last.1)) ∙ last.2
 
   low_next : m < length nexts
   low_next = let l = walk_low in let e = linked.many in omega arith

@@ -1,5 +1,5 @@
 -- The places of nodes.
-use Rattle.std.proofs.Common.{◌≡◌, ℕ, zero, suc, ◌<◌, ◌≤◌, ◌+◌, true, false, List, [], ◌∷◌, length, Option, Some, None, refl, sym, ap, subst, ◌∙◌, arith, ◌⊎◌, inl, inr}
+use Rattle.std.proofs.Common.{◌≡◌, ℕ, zero, suc, ◌<◌, ◌≤◌, ◌+◌, true, false, List, [], ◌∷◌, length, Option, Some, None, refl, sym, ap, ◌∙◌, arith, ◌⊎◌, inl, inr}
 use Rattle.std.specs.List.{slice_get}
 use Rattle.std.specs.Option.{option_map}
 use Rattle.std.specs.declared.cmp.Ordering.{Ordering}
@@ -10,17 +10,8 @@ use Rattle.std.proofs.lemmas.Bool.{cases_lt}
 use Rattle.sync_path.specs.Paths.{Node, path_cmp, comes_before}
 use Rattle.sync_path.specs.Order.{path_cmp_exact, path_cmp_total}
 use Rattle.sync_command.specs.declared.commands.Row.{Row}
-use Rattle.sync_command.specs.Changes.{Change}
 use Rattle.sync_path.proofs.CallerLemmas.{both, before_asym, before_irrefl}
 use Rattle.refluent.specs.Joints.{path_at, is_ascending, comes_before_all}
-use Rattle.std.specs.Prelude.{Vec}
-use Rattle.std.specs.Global.{Global}
-use Rattle.std.specs.Prelude.{◌++◌}
-use Rattle.std.proofs.Common.{length-append}
-use Rattle.pref_list.specs.Ranking.{set_from, set_of}
-use Rattle.pref_list.proofs.Ends.{last_or}
-use Rattle.pref_list.proofs.Named.{set_of_next}
-use Rattle.pref_list.specs.Numbers.{IsNodeAt, AreNodesOf}
 
 first_at : (p : Node) (rows : List Row) → comes_before_all p rows ≡ true → (i : ℕ) (q : Node) → path_at rows i ≡ Some q → comes_before p q ≡ true
 first_at p [] h i q e = cc (e)
@@ -134,23 +125,3 @@ nothing_left rows p low high is over i e = go (cases_lt i low)
     go : (i < low) ⊎ (low ≤ i) → ⊥
     go (inl l) = is.not_before i l e
     go (inr m) = is.not_after i (omega arith) e
-
--- the places of the nodes of the first so many commands
-pub record NodesSoFar (nodes : List Row) (cs : List Change) (n : ℕ) (places : List ℕ) : Type 0 where
-  pub many : length places ≡ n
-  pub each : (i place : ℕ) (c : Change) → slice_get places i ≡ Some place → slice_get cs i ≡ Some c → IsNodeAt nodes place c.node
-
--- the lists of the first so many sets
-pub record AllNodesSoFar (nodes : List Row) (sets : List (List Change)) (n : ℕ) (lists : List (Vec ℕ Global)) : Type 0 where
-  pub many : length lists ≡ n
-  pub each : (l : ℕ) (places : Vec ℕ Global) → slice_get lists l ≡ Some places → AreNodesOf nodes (set_from sets l) places.items
-
-pub all_nodes_more : (nodes : List Row) (sets : List (List Change)) (n : ℕ) (lists more : List (Vec ℕ Global)) (places : Vec ℕ Global) (cs : List Change) → AllNodesSoFar nodes sets n lists → more ≡ lists ++ places ∷ [] → cs ≡ set_of sets (n + 1) → AreNodesOf nodes cs places.items → AllNodesSoFar nodes sets (n + 1) more
-all_nodes_more nodes sets n lists more places cs so is e made = record {
-  many = ap length is ∙ length-append lists (places ∷ []) ∙ (let m = so.many in omega arith);
-  each = λ l v at. go l v (last_or lists places l v (ap (λ x. slice_get x l) (sym is) ∙ at));
-}
-  where
-    go : (l : ℕ) (v : Vec ℕ Global) → (slice_get lists l ≡ Some v) ⊎ ((l ≡ length lists) × (v ≡ places)) → AreNodesOf nodes (set_from sets l) v.items
-    go l v (inl at) = so.each l v at
-    go l v (inr same) = subst (λ cs. AreNodesOf nodes cs v.items) (e ∙ set_of_next sets n ∙ ap (set_from sets) (sym (same.0 ∙ so.many))) (subst (λ x. AreNodesOf nodes cs x.items) (sym same.1) made)

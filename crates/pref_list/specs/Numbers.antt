@@ -18,10 +18,6 @@ use Rattle.pref_list.specs.Ranking.{set_from, set_of}
 abbrev pub IsNodeAt : List Row → ℕ → Node → Type 0
 IsNodeAt nodes place p = path_at nodes place ≡ Some p
 
--- each command of a set names one of the nodes
-abbrev pub AreNamed : List Row → List Change → Type 0
-AreNamed nodes cs = (i : ℕ) (c : Change) → slice_get cs i ≡ Some c → (place : ℕ) × IsNodeAt nodes place c.node
-
 -- the places of the nodes of a set's commands
 pub record AreNodesOf (nodes : List Row) (cs : List Change) (places : List ℕ) : Type 0 where
   pub many : length places ≡ length cs

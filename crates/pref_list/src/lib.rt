@@ -15,7 +15,7 @@ mod rules;
 mod stages;
 
 pub use self::faults::RankFault;
-pub use self::nodes::{find_node, nodes_of, place_of};
+pub use self::nodes::{find_node, nodes_of};
 pub use self::numbers::{Numbers, command_at, number_all};
 pub use self::prefs::{print_prefs, read_prefs};
 pub use self::ranking::{Ranking, rank};

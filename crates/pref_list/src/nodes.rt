@@ -4,7 +4,7 @@ ghost use Rattle.std.specs.Prelude.{◌≡◌, ◌<◌, ◌≤◌, true, length,
 ghost use Rattle.sync_command.specs.Changes.{is_canonical};
 ghost use Rattle.refluent.specs.Joints.{path_at, is_ascending};
 ghost use Rattle.pref_list.specs.Ranking.{set_of};
-ghost use Rattle.pref_list.specs.Numbers.{IsNodeAt, AreNamed, AreNodesOf, AreAllNodesOf};
+ghost use Rattle.pref_list.specs.Numbers.{IsNodeAt, AreAllNodesOf};
 
 use refluent::Joint;
 use std::alloc::Global;
@@ -32,28 +32,6 @@ pub fn find_node(joint: &Joint, path: &Path) -> Option<usize>
     None
 }
 
-/// The place of a path that is one of the joint's nodes. Takes no memory.
-pub fn place_of(joint: &Joint, path: &Path) -> usize
-    requires rising { is_ascending joint.now.nodes ≡ true }
-    requires there { (place : ℕ) × IsNodeAt joint.now.nodes place path.now }
-    ensures { IsNodeAt joint.now.nodes result path.now }
-{
-    find_node(joint, path).unwrap()
-}
-
-/// The places of the nodes that the commands name.
-fn places_of(alloc: Global, joint: &Joint, commands: &[Command]) -> Result<Vec<usize>, NoMemory>
-    requires rising { is_ascending joint.now.nodes ≡ true }
-    requires named { AreNamed joint.now.nodes commands.now }
-    ensures { IfOk result (λ places. AreNodesOf joint.now.nodes commands.now places.items) }
-{
-    let mut places = Vec::with_capacity(alloc, commands.len())?;
-    'commands: for command in commands {
-        places.push(place_of(joint, command.path()))?;
-    }
-    Ok(places)
-}
-
 /// The net commands of a log, in the admissible order; logs count from 1.
 pub(crate) fn commands_of(joint: &Joint, log: u32) -> &[Command]
     requires { (0 < log) × (log ≤ length joint.now.sets) }
@@ -70,7 +48,13 @@ pub fn nodes_of(alloc: Global, joint: &Joint) -> Result<Vec<Vec<usize>>, NoMemor
     let count = joint.logs();
     let mut lists = Vec::with_capacity(alloc, count as usize)?;
     'logs: for log in 0..count {
-        lists.push(places_of(alloc, joint, commands_of(joint, log + 1))?)?;
+        let commands = commands_of(joint, log + 1);
+        lists.push(vec![in alloc; 0; commands.len()]?)?;
+    }
+    'nodes: for node in 0..joint.nodes() {
+        'picks: for pick in joint.commands(node) {
+            lists[pick.log as usize - 1][pick.place] = node;
+        }
     }
     Ok(lists)
 }

@@ -2,7 +2,8 @@
 
 ghost use Rattle.std.specs.Prelude.{◌≡◌, ◌<◌, ◌≤◌, ◌+◌, ◌-◌, [], ℕ, true, length, slice_get, Some, IfOk, OnOk, IfSome, IfNone};
 ghost use Rattle.sync_command.specs.Changes.{Change};
-ghost use Rattle.refluent.specs.Joints.{is_ascending};
+ghost use Rattle.refluent.specs.Joints.{IsJoint};
+ghost use Rattle.refluent.specs.declared.joint.Pick.{Pick};
 ghost use Rattle.pref_list.specs.Ranking.{set_of};
 ghost use Rattle.pref_list.specs.Picks.{command_of, log_of};
 ghost use Rattle.pref_list.specs.Numbers.{IsNodeAt, IsPick, IsLastOf, AreLinked, AreCovered, AreNodesOf, AreNumbersOf, AreBefore, KeepNumbers, AddsPick, numbered, IsChainsOf, IsNumberingOf};
@@ -38,7 +39,8 @@ pub fn command_at(joint: &Joint, pick: Pick) -> &Command
     &commands_of(joint, pick.log)[pick.place]
 }
 
-/// The number of an equal command, if there is one among those that name the node.
+/// The number of an equal command, if there is one among those that name the node. Net commands of one node have one
+/// old value, so their new values are compared alone.
 fn find(
     joint: &Joint,
     picks: &[Pick],
@@ -46,6 +48,8 @@ fn find(
     head: Option<usize>,
     command: &Command,
 ) -> Option<usize>
+    requires joint { IsJoint joint.now }
+    requires net { (pick : Pick) × (command_of joint.now.sets pick ≡ Some command.now) }
     requires linked { AreLinked joint.now.sets picks.now nexts.now }
     requires head { IsLastOf joint.now.sets picks.now command.now.node (length picks.now) head }
     ensures some { IfSome result (λ m. numbered joint.now.sets picks.now m ≡ Some command.now) }
@@ -54,7 +58,8 @@ fn find(
 {
     let mut at = head;
     'chain: while let Some(number) = at {
-        if command_at(joint, picks[number]).same(command) {
+        let other = command_at(joint, picks[number]);
+        if other.new_value().same(command.new_value()) {
             return Some(number);
         }
         at = nexts[number];
@@ -79,7 +84,7 @@ fn add(chains: &mut Chains, node: usize, pick: Pick) -> Result<usize, NoMemory>
 
 /// The number of a net command that names the node: that of an equal one, or the next.
 fn number(joint: &Joint, chains: &mut Chains, node: usize, pick: Pick) -> Result<usize, NoMemory>
-    requires ascending { is_ascending joint.now.nodes ≡ true }
+    requires joint { IsJoint joint.now }
     requires chained { IsChainsOf joint.now chains.old }
     requires pick { IsPick joint.now.sets pick }
     requires node { (c : Change) → command_of joint.now.sets pick ≡ Some c →
@@ -114,7 +119,7 @@ fn number_set(
     nodes: &[usize],
 ) -> Result<Vec<usize>, NoMemory>
     requires log { (0 < log) × (log ≤ length joint.now.sets) }
-    requires ascending { is_ascending joint.now.nodes ≡ true }
+    requires joint { IsJoint joint.now }
     requires chained { IsChainsOf joint.now chains.old }
     requires nodes { AreNodesOf joint.now.nodes (set_of joint.now.sets log) nodes.now }
     requires covered { AreCovered joint.now.sets chains.old.picks.items (log - 1) }

@@ -5,7 +5,7 @@ use Rattle.pref_list.proofs.InOrder.{added_before, before_next_place}
 use Rattle.pref_list.proofs.numbers.number.Goals as goal
 
 pub returns-in_ok-number-in-None-clause-chained : goal.returns-in_ok-number-in-None-clause-chained
-returns-in_ok-number-in-None-clause-chained c = added _ _ c.requires.ascending _ _ _ c.requires.chained _ _ _ c.command_at-command.ensures (c.requires.node _ c.command_at-command.ensures) c.requires.covered
+returns-in_ok-number-in-None-clause-chained c = added _ _ c.requires.joint.stands.order _ _ _ c.requires.chained _ _ _ c.command_at-command.ensures (c.requires.node _ c.command_at-command.ensures) c.requires.covered
     (subst (λ l. (m : ℕ) → numbered c.args.joint.now.sets l m ≡ Some c.command_at-command.result.now → ⊥) c.deref.ensures.value c.in-None.ensures.none) _ _ _ _ c.in_ok-number-in-None.ensures
 
 pub returns-in_ok-number-in-None-clause-number : goal.returns-in_ok-number-in-None-clause-number

@@ -1,5 +1,4 @@
 use Rattle.pref_list.proofs.Numbered.{one_more}
-use Rattle.pref_list.proofs.InOrder.{before_next_log}
 use Rattle.pref_list.proofs.numbers.number_set.Goals as goal
 
 pub places-preserved : goal.places-preserved
