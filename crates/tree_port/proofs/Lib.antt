@@ -1,3 +1,6 @@
+pub mod Dumps
 pub mod Listed
+pub mod PathOrder
 pub mod Putting
 pub mod Shots
+pub mod WholeTrees

@@ -1,5 +1,5 @@
 -- When a map with a value put at a node is a tree, and what the calls of a tree do to it.
-use Rattle.std.proofs.Common.{◌≡◌, Bool, true, false, List, ℕ, Option, Some, Result, Ok, Err, refl, sym, ap, subst, ◌∙◌, ◌⊎◌, inl, inr}
+use Rattle.std.proofs.Common.{◌≡◌, Bool, true, false, List, ℕ, Some, Result, Ok, Err, refl, sym, ap, subst, ◌∙◌, inl, inr}
 use mathlib.Core.Path.{fun_ext}
 use Rattle.std.specs.Prelude.{if◌then◌else◌}
 use Rattle.sync_path.specs.Paths.{Node, parent, same_path}

@@ -1,5 +1,5 @@
 -- What the calls of a live tree answer and change.
-use Rattle.std.specs.Prelude.{◌≡◌, ◌⊎◌, ◌↔◌, ⊤, ℕ, Bool, true, IsTrue, List, Option, Vec, Result, Ok, Err, OnOk, OnErr}
+use Rattle.std.specs.Prelude.{◌≡◌, ◌⊎◌, ◌↔◌, ⊤, ℕ, Bool, true, IsTrue, List, Option, Vec, Result, Ok, Err, OnOk, OnErr, IsErrOf}
 use Rattle.sync_port.specs.States.{next_number}
 use Rattle.sync_path.specs.Paths.{Node}
 use Rattle.sync_command.specs.declared.values.Kind.{Kind}
@@ -9,7 +9,7 @@ use Rattle.sync_command.specs.declared.values.Value.TheVariants.{Empty, Dir, Fil
 use Rattle.sync_command.specs.Maps.{IsTreeMap, Store, at, store}
 use Rattle.sync_command.specs.Values.{is_dir, kind_of}
 use Rattle.tree_port.specs.Conditions.{AreChildren, CanList, CanMake, CanPut, CanRemove}
-use Rattle.tree_port.specs.States.{CountsRefusals, TreeState, WhereKnown}
+use Rattle.tree_port.specs.States.{CountsRefusals, IsCounted, NoneFell, NoneRefused, TreeState, WhereKnown}
 use Rattle.tree_port.specs.declared.faults.TreeFault.{TreeFault}
 use Rattle.tree_port.specs.declared.faults.TreeFault.TheVariants.{Failed, Denied, Memory}
 
@@ -48,6 +48,27 @@ GivesLabel n result m = Answers (is_dir (at m n) ≡ true) (λ label. at m n ≡
 -- `children`: the children of a directory that are not empty, or the roots
 abbrev pub GivesChildren : {A : Type 0} → Option Node → Result (Vec Node A) TreeFault → Store → Type 0
 GivesChildren above result m = Answers (CanList (at m) above) (λ found. AreChildren (at m) above found.items) result
+
+-- the answer is right, and no denial came
+abbrev pub Finds : {T : Type 0} → (T → Type 0) → Result T TreeFault → Type 0
+Finds right result = Answers ⊤ right result
+
+-- ---- the whole tree
+
+-- A call that reads a tree by its reading calls. It changes nothing, and a call that failed or was
+-- denied was counted; memory may also run out where the tree counts nothing.
+pub record IsWholeReading {T : Type 0} (result : Result T TreeFault) (before now : TreeState) : Type 0 where
+  pub later : NoneFell before.counts now.counts
+  pub done : OnOk result (NoneRefused before.counts now.counts)
+  pub failed : IsErrOf result Failed → IsCounted before.counts.faults now.counts.faults
+  pub denied : IsErrOf result Denied → IsCounted before.counts.denials now.counts.denials
+  pub changes : now.counts.changes ≡ before.counts.changes
+  pub contents : now.contents ≡ before.contents
+  pub tree : WhereKnown before IsTreeMap
+
+-- `dump`: the map of what the tree holds
+abbrev pub GivesMap : Result Store TreeFault → Store → Type 0
+GivesMap result m = Finds (λ map. map ≡ m) result
 
 -- ---- changing calls
 

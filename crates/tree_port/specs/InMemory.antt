@@ -1,5 +1,5 @@
 -- What trees in memory hold and count.
-use Rattle.std.specs.Prelude.{◌≡◌, ◌⊎◌, ◌↔◌, ◌==◌, ℕ, Bool, true, false, IsTrue, List, [], ◌∷◌, Option, None, Some, Result, Err, IsErrOf, is_some, if◌then◌else◌}
+use Rattle.std.specs.Prelude.{◌≡◌, ◌⊎◌, ◌↔◌, ◌==◌, ℕ, Bool, true, false, IsTrue, List, [], ◌∷◌, Option, None, Some, Result, IsErrOf, is_some, if◌then◌else◌}
 use Rattle.sync_path.specs.Paths.{Node}
 use Rattle.sync_port.specs.States.{next_number}
 use Rattle.sync_command.specs.Maps.{Store, store}

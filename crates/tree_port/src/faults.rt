@@ -1,5 +1,10 @@
 //! Why a call of a tree was refused.
 
+ghost use Rattle.std.specs.Prelude.{◌≡◌};
+ghost use Rattle.tree_port.specs.declared.faults.TreeFault.TheVariants.{Memory};
+
+use std::alloc::{AllocError, AllocFailed};
+use sync_path::NoMemory;
 use thiserror::Error;
 
 /// Why a call of a tree was refused.
@@ -14,4 +19,28 @@ pub enum TreeFault {
     /// Nothing was changed.
     #[error("out of memory")]
     Memory,
+}
+
+impl From<AllocError> for TreeFault {
+    ghost from_gives = { λ _ e. e ≡ Memory };
+
+    fn from(_e: AllocError) -> TreeFault {
+        TreeFault::Memory
+    }
+}
+
+impl<T: Drop> From<AllocFailed<T>> for TreeFault {
+    ghost from_gives = { λ _ e. e ≡ Memory };
+
+    fn from(_e: AllocFailed<T>) -> TreeFault {
+        TreeFault::Memory
+    }
+}
+
+impl From<NoMemory> for TreeFault {
+    ghost from_gives = { λ _ e. e ≡ Memory };
+
+    fn from(_e: NoMemory) -> TreeFault {
+        TreeFault::Memory
+    }
 }

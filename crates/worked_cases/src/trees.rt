@@ -1,11 +1,12 @@
-//! Trees as maps: commands that are done or refused, and replays.
+//! Trees as maps: commands that are done or refused, replays, and live trees read whole.
 
-use crate::lines::{Line, command};
+use crate::lines::{Line, command, path, value};
 use apply_model::{Break, RunBreak, TreeMap, replay, replay_owned};
 use std::alloc::Global;
 use std::test::Fail;
-use sync_command::{Command, Row};
+use sync_command::{Command, Row, Value};
 use sync_path::Path;
+use tree_port::{FuseTree, MemTree, Shot, Tree, TreeFault, dump};
 
 /// Whether the command was done.
 fn was_done(tree: &mut TreeMap, command: &Command) -> Result<bool, Fail> {
@@ -120,5 +121,53 @@ fn commands_are_handed_over(rt: HostRuntime) -> Result<(), Fail> {
         text_of(alloc, tree.into_rows()?)?.as_slice(),
         b"a d\nb f:2\n".as_slice()
     );
+    Ok(())
+}
+
+/// Nodes in path order, and what each holds.
+const HELD: &[(&'static str, &'static str)] = &[
+    ("a", "d:1"),
+    ("a/b", "d"),
+    ("a/b/x", "f:1"),
+    ("a/b/y", "d"),
+    ("a/c", "f:"),
+    ("a+", "f:2"),
+    ("b", "d"),
+    ("b/x", "d:2"),
+];
+
+const HELD_TEXT: &[u8] = b"a d:1\na/b d\na/b/x f:1\na/b/y d\na/c f:\na+ f:2\nb d\nb/x d:2\n";
+
+fn held_map(alloc: Global) -> Result<TreeMap, Fail> {
+    let mut map = TreeMap::new(alloc);
+    for (node, held) in HELD {
+        map.apply_owned(Command::new(path(alloc, node)?, Value::Empty, value(alloc, held)?)?)?;
+    }
+    Ok(map)
+}
+
+#[test]
+fn a_live_tree_is_read_whole(rt: HostRuntime) -> Result<(), Fail> {
+    let alloc = rt.alloc();
+    let mut tree: Box<dyn Tree> = Box::new(alloc, MemTree::new(held_map(alloc)?))?;
+    let map = dump(alloc, &mut tree)?;
+    assert_eq!(rt; text(alloc, &map)?.as_slice(), HELD_TEXT);
+    let mut bare: Box<dyn Tree> = Box::new(alloc, MemTree::new(TreeMap::new(alloc)))?;
+    let nothing = dump(alloc, &mut bare)?;
+    assert_eq!(rt; text(alloc, &nothing)?.as_slice(), b"".as_slice());
+    Ok(())
+}
+
+#[test]
+fn a_call_that_fails_leaves_the_tree(rt: HostRuntime) -> Result<(), Fail> {
+    let alloc = rt.alloc();
+    for done in [false, true] {
+        let shots = vec![in alloc; Shot { call: 3, done }]?;
+        let mut tree: Box<dyn Tree> = Box::new(alloc, FuseTree::new(held_map(alloc)?, shots))?;
+        assert!(rt; matches!(dump(alloc, &mut tree), Err(TreeFault::Failed)));
+        let map = dump(alloc, &mut tree)?;
+        assert_eq!(rt; text(alloc, &map)?.as_slice(), HELD_TEXT);
+        assert_eq!(rt; tree.changed(), 0);
+    }
     Ok(())
 }

@@ -131,6 +131,14 @@ impl<R: std::rt::Files + Clone + Drop> Folder<R> {
         Ok(true)
     }
 
+    /// Whether the node is a directory that is remembered, or above one.
+    fn is_above_reached(&self, path: &Path) -> bool {
+        match &self.reached {
+            Some(reached) => reached.same(path) || reached.under(path),
+            None => false,
+        }
+    }
+
     /// What stands at the node.
     fn find(&mut self, path: &Path) -> Result<Found, TreeFault> {
         self.clear()?;
@@ -138,6 +146,9 @@ impl<R: std::rt::Files + Clone + Drop> Folder<R> {
             if seen.path.same(path) {
                 return Ok(seen.found);
             }
+        }
+        if self.is_above_reached(path) {
+            return Ok(Found::Dir);
         }
         let found = if self.reach(path)? {
             let text = self.text(path, path.depth())?;
@@ -153,10 +164,8 @@ impl<R: std::rt::Files + Clone + Drop> Folder<R> {
     /// Forgets what is at or under the node.
     fn forget(&mut self, path: &Path) {
         self.seen = None;
-        if let Some(reached) = &self.reached {
-            if reached.same(path) || reached.under(path) {
-                self.reached = None;
-            }
+        if self.is_above_reached(path) {
+            self.reached = None;
         }
     }
 

@@ -1,4 +1,4 @@
-use Rattle.std.proofs.Common.{◌≡◌, ◌∙◌, ◌≤◌, length, sym, ap, subst}
+use Rattle.std.proofs.Common.{◌∙◌, length, sym, ap}
 use Rattle.std.specs.Prelude.{option_copied}
 use Rattle.sync_path.proofs.CallerLemmas.{parent_none}
 use Rattle.tree_port.proofs.Listed.{one_name}
