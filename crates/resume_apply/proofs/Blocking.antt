@@ -1,11 +1,13 @@
 -- The look at the nodes that would be left without a directory above them.
-use Rattle.std.proofs.Common.{◌≡◌, ◌⊎◌, inl, inr, ◌<◌, ◌≤◌, ℕ, zero, suc, ◌+◌, Bool, true, false, not, List, [], ◌∷◌, Option, Some, None, Result, Ok, Err, Bor, refl, sym, ap, subst, ◌∙◌, arith, drop, length, get_or}
-use Rattle.std.specs.Prelude.{◌↔◌, if◌then◌else◌, is_none, is_some, option_copied, ⊤, IsTrue, Contains, AllPairs}
+use Rattle.std.proofs.Common.{◌≡◌, ◌⊎◌, inl, inr, ◌<◌, ◌≤◌, ℕ, zero, suc, ◌+◌, Bool, true, false, true≢false, not, List, [], ◌∷◌, Option, Some, None, Result, Ok, Err, Bor, refl, sym, ap, subst, ◌∙◌, arith, drop, length, get_or}
+use Rattle.std.specs.Prelude.{◌||◌, ◌&&◌, ◌↔◌, if◌then◌else◌, is_none, is_some, option_copied, ⊤, IsTrue, Contains, AllPairs}
 use Rattle.std.proofs.lemmas.List.{at_drop_all}
 use Rattle.sync_path.specs.Paths.{Node, comes_before, parent, same_path}
 use Rattle.sync_path.proofs.CallerLemmas.{before_asym, before_irrefl, before_total, before_trans, same_path_is, same_path_refl}
 use Rattle.sync_command.specs.declared.values.Value.{Value}
-use Rattle.sync_command.specs.Values.{is_dir, is_empty}
+use Rattle.sync_command.specs.declared.values.Value.TheVariants.{Empty, Dir, File}
+use Rattle.sync_command.specs.Values.{is_dir, is_empty, same_value}
+use Rattle.sync_command.proofs.CallerLemmas.{same_value_is}
 use Rattle.sync_command.specs.Changes.{Change}
 use Rattle.sync_command.specs.Trees.{Holding, IsTree, after, command_at, new_or}
 use Rattle.sync_command.specs.Maps.{IsTreeMap, Store, at}
@@ -13,8 +15,8 @@ use Rattle.canon_set.specs.Sets.{IsFitting}
 use Rattle.tree_port.specs.Conditions.{AreBelow, AreChildren, CanList}
 use Rattle.tree_port.specs.States.{IfHeld, TreeState, WhereKnown}
 use Rattle.tree_port.specs.Calls.{Answers}
-use Rattle.resume_apply.specs.Preparing.{Covers, Finds, FindsBelow, FindsFirst, FindsValues, IsAsking, IsBlocked, IsBlockedOrNone, IsFirstBlocked, IsOfTree, KeepsFirst, LooksAt, first_diverged, first_unnamed, goes_first}
-use Rattle.resume_apply.specs.Ready.{IsReady, is_ready_value}
+use Rattle.resume_apply.specs.Preparing.{Covers, Finds, FindsBelow, FindsFirst, FindsValues, HoldsReady, IsAsking, IsBlocked, IsBlockedOrNone, IsFirstBlocked, IsOfTree, KeepsFirst, LooksAt, first_diverged, first_unnamed, goes_first}
+use Rattle.resume_apply.specs.Ready.{IsReady, changes_kind, is_ready_value}
 use Rattle.resume_apply.specs.declared.faults.ApplyFault.{ApplyFault}
 use Rattle.resume_apply.specs.declared.faults.ApplyFault.TheVariants.{Diverged, Blocked, Failed, Denied, Memory}
 use Rattle.resume_apply.proofs.Looking.{HasAsked, answers_now, asks_done, asks_none, held_all, held_as, held_both, known_on, rest_is}
@@ -395,6 +397,37 @@ pub under_flat : (cs : List Change) (c : Change) (p : Node) (b : Bool) (t : Opti
 under_flat cs c p b t fitting named at_p flat tree answer =
     held_as t (λ m h. below_flat cs (at m) c fitting h.0.tree named (ap (λ q. is_dir (at m q)) (sym at_p) ∙ sym h.1.1 ∙ flat)) (held_both _ _ t tree answer)
 
+empty_flat : (v : Value) → is_empty v ≡ true → is_dir v ≡ false
+empty_flat Empty e = refl
+empty_flat (Dir label) e = absurd (true≢false (sym e))
+empty_flat (File bytes) e = refl
+
+-- and so where its node holds a value of ready, and neither of the command's values is a directory
+flat_ready : (c : Change) (v : Value) → is_ready_value c v ≡ true → is_dir c.new ≡ false → is_dir c.old ≡ false → is_dir v ≡ false
+flat_ready c v ready new old = go (same_value v c.old) refl (same_value v c.new) refl (changes_kind c) (is_empty v) refl ready
+  where
+    go : (a : Bool) → same_value v c.old ≡ a → (b : Bool) → same_value v c.new ≡ b → (d e : Bool) → is_empty v ≡ e → (a || (b || (d && e))) ≡ true → is_dir v ≡ false
+    go true e b f d g h r = ap is_dir (same_value_is v c.old e) ∙ old
+    go false e true f d g h r = ap is_dir (same_value_is v c.new f) ∙ new
+    go false e false f true true h r = empty_flat v h
+    go false e false f true false h r = absurd (true≢false (sym r))
+    go false e false f false g h r = absurd (true≢false (sym r))
+
+pub under_ready : (cs : List Change) (c : Change) (t : Option Store) → IsFitting cs → command_at cs c.node ≡ Some c → is_dir c.new ≡ false → is_dir c.old ≡ false → IfHeld t (HoldsReady cs) → IfHeld t (λ m. FindsBelow cs (at m) c None)
+under_ready cs c t fitting named new old ready =
+    held_as t (λ m h. below_flat cs (at m) c fitting h.tree.tree named (flat_ready c (at m c.node) (all_ready cs (at m) h.values c.node c named) new old)) ready
+
+-- what is known of one and the same tree goes on being known
+pub still_ready : (cs : List Change) (t0 t1 : Option Store) → t1 ≡ t0 → IfHeld t0 (HoldsReady cs) → IfHeld t1 (HoldsReady cs)
+still_ready cs t0 t1 same h = subst (λ t. IfHeld t (HoldsReady cs)) (sym same) h
+
+-- where none diverged, and what is held is a tree
+pub ready_held : (cs : List Change) (t0 t1 : Option Store) → t1 ≡ t0 → IfHeld t0 IsTreeMap → IfHeld t0 (λ m. first_diverged cs (at m) ≡ None) → IfHeld t1 (HoldsReady cs)
+ready_held cs t0 t1 same tree none = subst (λ t. IfHeld t (HoldsReady cs)) (sym same) (held_as t0 (λ m h. record { tree = h.0; values = h.1 }) (held_both _ _ t0 tree none))
+
+pub values_held : (cs : List Change) (k : ℕ) (t0 t1 : Option Store) → t1 ≡ t0 → IfHeld t0 (λ m. FindsValues cs (at m) (Ok k)) → IfHeld t1 (λ m. first_diverged cs (at m) ≡ None)
+values_held cs k t0 t1 same values = subst (λ t. IfHeld t (λ m. first_diverged cs (at m) ≡ None)) (sym same) (held_as t0 (λ m h. h.0) values)
+
 pub under_found : (cs : List Change) (c : Change) (p : Node) (found : List Node) (o : Option Node) (t0 t1 : Option Store) → IsFitting cs → command_at cs c.node ≡ Some c → p ≡ c.node → is_dir c.new ≡ false → t1 ≡ t0 →
     AreBelow (Some p) found → o ≡ first_unnamed cs found → IfHeld t1 (λ m. CanList (at m) (Some p) × AreChildren (at m) (Some p) found) → IfHeld t0 (λ m. FindsBelow cs (at m) c o)
 under_found cs c p found o t0 t1 fitting named at_p flat same below is answer = subst (λ t. IfHeld t (λ m. FindsBelow cs (at m) c o)) same (held_as t1 go answer)
@@ -412,15 +445,17 @@ under_found cs c p found o t0 t1 fitting named at_p flat same below is answer = 
 -- what is known before the command with this place
 pub record IsSeeking (cs : List Change) (i : ℕ) (s0 s1 : TreeState) (first : Option Node) : Type 0 where
   pub asked : HasAsked s0 s1
+  pub ready : WhereKnown s0 (HoldsReady cs)
   pub sought : WhereKnown s0 (λ m. IsSought cs (drop i cs) (at m) first)
 
-pub seeking_begins : (cs : List Change) (s0 : TreeState) → WhereKnown s0 IsTreeMap → IsSeeking cs 0 s0 s0 None
-seeking_begins cs s0 tree = record { asked = asks_none s0; sought = held_as s0.contents (λ m h. seek_begins cs (at m) h.tree) tree }
+pub seeking_begins : (cs : List Change) (s0 : TreeState) → WhereKnown s0 IsTreeMap → WhereKnown s0 (λ m. first_diverged cs (at m) ≡ None) → IsSeeking cs 0 s0 s0 None
+seeking_begins cs s0 tree none = record { asked = asks_none s0; ready = ready_held cs s0.contents s0.contents refl tree none; sought = held_as s0.contents (λ m h. seek_begins cs (at m) h.tree) tree }
 
 pub seeking_on : {T : Type 0} (cs : List Change) (i : ℕ) (c : Change) (s0 s1 s2 : TreeState) (x : T) (old new : Option Node) → i < length cs → c ≡ get_or cs i c → IsSeeking cs i s0 s1 old → IsAsking (Ok x) s1 s2 →
     WhereKnown s1 (λ m. LooksAt cs (at m) c old new) → IsSeeking cs (i + 1) s0 s2 new
 seeking_on cs i c s0 s1 s2 x old new h is seeking asks looks = record {
   asked = asks_done s0 s1 s2 x seeking.asked asks;
+  ready = seeking.ready;
   sought = held_as s0.contents (λ m f. seek_on cs (drop (i + 1) cs) c (at m) old new f.1 (subst (λ r. IsSought cs r (at m) old) (rest_is cs i c h is) f.0)) (held_both _ _ s0.contents seeking.sought (known_on _ s0 s1 seeking.asked looks));
 }
 

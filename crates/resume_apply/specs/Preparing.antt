@@ -4,6 +4,7 @@ use Rattle.sync_path.specs.Paths.{Node, comes_before, parent}
 use Rattle.sync_command.specs.declared.values.Value.{Value}
 use Rattle.sync_command.specs.Values.{is_dir, is_empty}
 use Rattle.sync_command.specs.Changes.{Change}
+use Rattle.sync_command.specs.Maps.{IsTreeMap, Store, at}
 use Rattle.sync_command.specs.Trees.{Holding, after, command_at}
 use Rattle.tree_port.specs.States.{IsCounted, NoneFell, NoneRefused, TreeState, WhereKnown}
 use Rattle.resume_apply.specs.Ready.{IsReady, is_ready_value, work, work_at}
@@ -14,6 +15,11 @@ use Rattle.resume_apply.specs.declared.faults.ApplyFault.TheVariants.{Diverged, 
 abbrev pub first_diverged : List Change → Holding → Option Node
 first_diverged [] t = None
 first_diverged (c ∷ cs) t = if is_ready_value c (t c.node) then first_diverged cs t else Some c.node
+
+-- a tree of which each node of the set holds a value of ready
+pub record HoldsReady (cs : List Change) (m : Store) : Type 0 where
+  pub tree : IsTreeMap m
+  pub values : first_diverged cs (at m) ≡ None
 
 -- a node that would be left under a parent that is no directory
 pub record IsBlocked (cs : List Change) (t : Holding) (n : Node) : Type 0 where

@@ -8,7 +8,7 @@ ghost use Rattle.canon_set.specs.Sets.{IsFitting};
 ghost use Rattle.tree_port.specs.Conditions.{AreBelow};
 ghost use Rattle.tree_port.specs.States.{WhereKnown};
 ghost use Rattle.tree_port.specs.Calls.{Answers, GivesChildren, IsReading};
-ghost use Rattle.resume_apply.specs.Preparing.{Finds, FindsBelow, FindsFirst, FindsValues, IsAsking, IsBlocked, IsFew, IsOfTree, IsWorkAt, KeepsFirst, LooksAt, first_unnamed, goes_first};
+ghost use Rattle.resume_apply.specs.Preparing.{Finds, FindsBelow, FindsFirst, FindsValues, IsAsking, IsBlocked, IsFew, IsOfTree, IsWorkAt, HoldsReady, KeepsFirst, LooksAt, first_diverged, first_unnamed, goes_first};
 
 use crate::ApplyFault;
 use crate::finishing::{changes_kind, holds, is_empty_at};
@@ -144,7 +144,8 @@ fn is_left_alone(
     Ok(!is_dir)
 }
 
-/// The first child that would be left under the node, where that is no directory after the set.
+/// The first child that would be left under the node, where that is no directory after the set. A node that is one now
+/// holds the command's old value, since the tree holds values of ready.
 fn first_left_under(
     alloc: Global,
     tree: &mut Box<dyn Tree>,
@@ -153,12 +154,16 @@ fn first_left_under(
 ) -> Result<Option<Path>, ApplyFault>
     requires fitting { IsFitting set.now }
     requires named { command_at set.now command.now.node ≡ Some command.now }
+    requires ready { WhereKnown (live tree.old) (HoldsReady set.now) }
     ensures asking { IsAsking result (live tree.old) (live tree.new) }
     ensures answer { WhereKnown (live tree.old)
         (λ m. IfOk result (FindsBelow set.now (at m) command.now)) }
     ensures refusal { IsOfTree result }
 {
     if command.new_value().is_dir() {
+        return Ok(None);
+    }
+    if !command.old().is_dir() {
         return Ok(None);
     }
     if !is_dir_at(tree, command.path())? {
@@ -178,6 +183,7 @@ fn look_at(
 ) -> Result<(), ApplyFault>
     requires fitting { IsFitting set.now }
     requires named { command_at set.now command.now.node ≡ Some command.now }
+    requires ready { WhereKnown (live tree.old) (HoldsReady set.now) }
     ensures asking { IsAsking result (live tree.old) (live tree.new) }
     ensures answer { WhereKnown (live tree.old)
         (λ m. OnOk result (LooksAt set.now (at m) command.now first.old first.new)) }
@@ -193,12 +199,14 @@ fn look_at(
     Ok(())
 }
 
-/// The first node, in path order, that would be left without a directory above it.
+/// The first node, in path order, that would be left without a directory above it, where each node of the set holds a
+/// value of ready.
 fn first_blocked(
     alloc: Global,
     tree: &mut Box<dyn Tree>,
     set: &CanonSet,
 ) -> Result<Option<Path>, ApplyFault>
+    requires { WhereKnown (live tree.old) (λ m. first_diverged set.now (at m) ≡ None) }
     ensures asking { IsAsking result (live tree.old) (live tree.new) }
     ensures answer { WhereKnown (live tree.old) (λ m. IfOk result (FindsFirst set.now (at m))) }
     ensures refusal { IsOfTree result }

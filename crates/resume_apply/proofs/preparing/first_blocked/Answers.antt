@@ -1,4 +1,4 @@
-use Rattle.resume_apply.proofs.Blocking.{seeking_ends, seeking_on}
+use Rattle.resume_apply.proofs.Blocking.{seeking_ends, seeking_on, still_ready}
 use Rattle.resume_apply.proofs.WholeWalk.{at_end, command_is, in_set}
 use Rattle.resume_apply.proofs.preparing.first_blocked.Goals as goal
 
@@ -14,3 +14,6 @@ nodes-preserved g c =
 
 pub returns-clause-answer : goal.returns-clause-answer
 returns-clause-answer g c = (seeking_ends c.args.set.now c.nodes.command-index _ _ c.nodes.first (at_end _ _ _ c.commands-commands.ensures.commands c.nodes-test.false) c.nodes.invariant).1
+
+pub look_at-requires-clause-ready : goal.look_at-requires-clause-ready
+look_at-requires-clause-ready g c = still_ready c.args.set.now _ _ c.nodes.invariant.asked.contents c.nodes.invariant.ready
