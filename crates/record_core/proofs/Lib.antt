@@ -17,3 +17,6 @@ pub mod SealLaws
 pub mod CallerLemmas
 pub mod OpenTexts
 mod Rows
+pub mod Taken
+pub mod OutcomeTexts
+pub mod ReadOps

@@ -1,9 +1,9 @@
 -- How the touched nodes of a log stand on a tree, one after another.
-use Rattle.std.proofs.Common.{◌≡◌, ◌⊎◌, inl, inr, ◌≤◌, ◌<◌, ℕ, suc, ◌+◌, ◌-◌, Bool, true, false, List, [], ◌∷◌, ◌++◌, length, take, get_or, Option, Some, None, Result, Ok, Err, refl, sym, ap, subst, ◌∙◌, arith, take_all, IsErrOf}
-use Rattle.std.specs.Prelude.{⊤, if◌then◌else◌, slice_get}
+use Rattle.std.proofs.Common.{◌≡◌, ◌⊎◌, inl, inr, ◌≤◌, ◌<◌, ℕ, ◌+◌, ◌-◌, Bool, true, false, List, [], ◌∷◌, ◌++◌, length, take, get_or, Option, Some, None, Result, Ok, Err, refl, sym, ap, subst, ◌∙◌, arith, take_all, IsErrOf}
+use Rattle.std.specs.Prelude.{if◌then◌else◌, slice_get}
 use Rattle.std.proofs.lemmas.List.{take_more}
 use Rattle.sync_path.specs.Paths.{Node, comes_before}
-use Rattle.sync_path.proofs.CallerLemmas.{before_asym, before_irrefl, before_trans}
+use Rattle.sync_path.proofs.CallerLemmas.{before_irrefl, before_trans}
 use Rattle.sync_command.specs.Changes.{Change}
 use Rattle.sync_command.specs.Trees.{Holding}
 use Rattle.sync_command.specs.Maps.{Store, at}
@@ -14,7 +14,6 @@ use Rattle.tree_port.specs.States.{Counts, IfHeld, NoneFell, NoneRefused, TreeSt
 use Rattle.tree_port.specs.declared.faults.TreeFault.{TreeFault}
 use Rattle.tree_port.specs.declared.faults.TreeFault.TheVariants as tree
 use Rattle.record_core.specs.declared.sealing.Standing.{Standing}
-use Rattle.record_core.specs.declared.sealing.Standing.TheVariants as standing
 use Rattle.record_core.specs.declared.sealing.Shown.{Shown}
 use Rattle.record_core.specs.declared.sealing.Shown.TheVariants as shown
 use Rattle.record_core.specs.Looks.{Asks, HoldsOld, IsAmong, IsFirstOf, IsFirstOut, IsWithin, Shows, StandsAs, StandsWell, IsRightLook}

@@ -1,5 +1,5 @@
 -- The text of a log without its end line, and a text that was cut, as open logs.
-use Rattle.std.proofs.Common.{◌≡◌, ◌⊎◌, inl, inr, ℕ, zero, suc, ◌+◌, ◌≤◌, ◌<◌, Bool, true, false, cond, nat_eq, nat_lt, List, [], ◌∷◌, ◌++◌, length, take, Option, Some, None, Result, Ok, Err, refl, sym, ap, subst, ◌∙◌, arith, append_assoc, append-nil, length-append, unwrap_or}
+use Rattle.std.proofs.Common.{◌≡◌, ◌⊎◌, inl, inr, ℕ, zero, suc, ◌+◌, ◌≤◌, Bool, true, false, cond, nat_eq, nat_lt, List, [], ◌∷◌, ◌++◌, length, take, Option, Some, None, Result, Ok, Err, refl, sym, ap, subst, ◌∙◌, arith, append_assoc, append-nil, length-append, unwrap_or}
 use Rattle.std.specs.Prelude.{map, if◌then◌else◌, decimal, IsErr}
 use Rattle.std.proofs.lemmas.List.{length-map}
 use Rattle.std.proofs.lemmas.List.Sums.{sum_by-append}
@@ -16,7 +16,6 @@ use Rattle.log_text.specs.declared.faults.TextKind.{TextKind}
 use Rattle.log_text.specs.declared.faults.TextKind.TheVariants as kind
 use Rattle.log_text.specs.declared.frame.TheConstants.{MAX_ITEMS}
 use Rattle.log_text.specs.Frame.{Judge, after_first, at_line, body_items, body_of, complete_items, end_line, end_number, ended, fault_at, framed_of, head_of, header_fault, items_after_first, items_at, unless, with_head}
-use Rattle.log_text.specs.LogPieces.{IsShownLog, complete, version_in}
 use Rattle.log_text.specs.Logs.{IsLog, judge_change, log_first, log_of, log_text}
 use Rattle.log_text.specs.OpenLogs.{IsOpenLog, ended_part}
 use Rattle.log_text.specs.Pieces.{line_feeds}

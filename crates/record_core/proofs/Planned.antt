@@ -1,5 +1,5 @@
 -- The steps of an operation that no test refuses can be recorded one after another.
-use Rattle.std.proofs.Common.{◌≡◌, ◌⊎◌, inl, inr, ◌<◌, Bool, true, false, not, ◌&&◌, List, [], ◌∷◌, ◌++◌, length, drop, Option, Some, None, refl, sym, ap, subst, ◌∙◌, arith, append-nil}
+use Rattle.std.proofs.Common.{◌≡◌, ◌⊎◌, inl, inr, ℕ, ◌<◌, Bool, true, false, not, ◌&&◌, List, [], ◌∷◌, ◌++◌, length, drop, Option, Some, None, refl, sym, ap, subst, ◌∙◌, arith, append-nil}
 use Rattle.std.specs.Prelude.{map, if◌then◌else◌}
 use Rattle.std.specs.FinMap as finite
 use Rattle.sync_path.specs.Paths.{Node, is_under, moved, parent, same_path}
@@ -17,7 +17,7 @@ use Rattle.record_core.specs.declared.ops.Op.TheVariants as op
 use Rattle.record_core.specs.declared.steps.Step.{Step}
 use Rattle.record_core.specs.declared.steps.Step.TheVariants.{Give, Make, Clear}
 use Rattle.record_core.specs.Changing.{CanRecord}
-use Rattle.record_core.specs.Meanings.{backwards, commands_of, copied, emptied, first_that_applies, has_child, is_child_of, is_dir_or_none, lacks_parent, nodes_of, subtree, tests, to_value}
+use Rattle.record_core.specs.Meanings.{backwards, commands_of, copied, copy_tests, emptied, first_that_applies, has_child, is_child_of, is_dir_or_none, is_too_deep, lacks_parent, nodes_of, subtree, tests, to_value}
 use Rattle.record_core.specs.Plans.{HasNames, clear_steps, make_steps, steps_of}
 use Rattle.record_core.specs.Steps.{AreSteady, CanWalk, change_of, changes_of}
 use Rattle.record_core.proofs.Ascending.{has, keys_full, not_both, one_list, or_left, or_right}
@@ -247,39 +247,74 @@ steps_commands m (op.Deltree p) = clears (at m) (backwards (subtree (nodes_of m)
 steps_commands m (op.Copy p q) = makes (at m) p q (subtree (nodes_of m) p)
 steps_commands m (op.Move p q) = changes_append (at m) (make_steps (nodes_of m) p q) (clear_steps (nodes_of m) p) ∙ (λ i. makes (at m) p q (subtree (nodes_of m) p) i ++ clears (at m) (backwards (subtree (nodes_of m) p)) i)
 
+-- the tree that `mkdir` leaves
+pub mkdir_tree : (m : Store) → IsTreeMap m → (p : Node) → first_that_applies (tests (nodes_of m) (op.Mkdir p)) ≡ None → IsTree (put (at m) p (Dir []))
+mkdir_tree m tree p e =
+    let a = none_first (not (is_empty (at m p))) _ _ e in
+    let b = none_first (lacks_parent (nodes_of m) p) _ _ a.1 in
+    put_tree (at m) tree.tree p (Dir []) (λ f. parent_dir m p b.0) (λ f. absurd (not_both true refl f))
+
+-- the tree that `put` leaves
+pub file_tree : (m : Store) → IsTreeMap m → (p : Node) (bytes : List ℕ) → first_that_applies (tests (nodes_of m) (op.Put p bytes)) ≡ None → IsTree (put (at m) p (File bytes))
+file_tree m tree p bytes e =
+    let a = none_first (is_dir (at m p)) _ _ e in
+    let b = none_first (lacks_parent (nodes_of m) p) _ _ a.1 in
+    put_tree (at m) tree.tree p (File bytes) (λ f. parent_dir m p b.0) (λ f. no_children m tree p a.0)
+
+-- the tree that `del` leaves
+pub del_tree : (m : Store) → IsTreeMap m → (p : Node) → first_that_applies (tests (nodes_of m) (op.Del p)) ≡ None → IsTree (put (at m) p Empty)
+del_tree m tree p e =
+    let a = none_first (is_empty (at m p)) _ _ e in
+    let b = none_first (has_child (nodes_of m) p) _ _ a.1 in
+    put_tree (at m) tree.tree p Empty (λ f. absurd (not_both true refl f)) (λ f. childless m tree p b.0)
+
+-- the tree that `label` leaves
+pub label_tree : (m : Store) → IsTreeMap m → (p : Node) (label : List ℕ) → first_that_applies (tests (nodes_of m) (op.Label p label)) ≡ None → IsTree (put (at m) p (Dir label))
+label_tree m tree p label e =
+    let a = none_first (is_empty (at m p)) _ _ e in
+    put_tree (at m) tree.tree p (Dir label) (λ f r up. tree.tree r p up a.0) (λ f. absurd (not_both true refl f))
+
+-- no test of `copy` and `move` applies
+pub record AreFree (m : Store) (p q : Node) : Type 0 where
+  pub full : is_empty (at m p) ≡ false
+  pub outside : is_under q p ≡ false
+  pub free : is_empty (at m q) ≡ true
+  pub above : (r : Node) → parent q ≡ Some r → is_dir (at m r) ≡ true
+  pub shallow : is_too_deep (nodes_of m) p q ≡ false
+
+pub are_free : (m : Store) (p q : Node) → first_that_applies (copy_tests (nodes_of m) p q) ≡ None → AreFree m p q
+are_free m p q e =
+    let a = none_first (is_empty (at m p)) _ _ e in
+    let b = none_first (is_under q p) _ _ a.1 in
+    let d = none_first (not (is_empty (at m q))) _ _ b.1 in
+    let f = none_first (lacks_parent (nodes_of m) q) _ _ d.1 in
+    let g = none_first (is_too_deep (nodes_of m) p q) _ _ f.1 in
+    record { full = a.0; outside = b.0; free = turn (is_empty (at m q)) d.0; above = parent_dir m q f.0; shallow = g.0 }
+
 pub can_walk : (m : Store) → IsTreeMap m → (o : Op) → HasNames o → first_that_applies (tests (nodes_of m) o) ≡ None → CanWalk m (steps_of (nodes_of m) o)
 can_walk m tree (op.Mkdir p) names e =
     let a = none_first (not (is_empty (at m p))) _ _ e in
-    let b = none_first (lacks_parent (nodes_of m) p) _ _ a.1 in
     let none = turn (is_empty (at m p)) a.0 in
-    one_step m tree p (Dir []) (put_tree (at m) tree.tree p (Dir []) (λ f. parent_dir m p b.0) (λ f. absurd (not_both true refl f)))
+    one_step m tree p (Dir []) (mkdir_tree m tree p e)
     (λ s. record { full = λ f. absurd (not_both false f refl); plain = λ f g. absurd (not_both (is_empty (at m p)) none g); kept = λ f g. refl })
 can_walk m tree (op.Put p bytes) names e =
     let a = none_first (is_dir (at m p)) _ _ e in
-    let b = none_first (lacks_parent (nodes_of m) p) _ _ a.1 in
-    one_step m tree p (File bytes) (put_tree (at m) tree.tree p (File bytes) (λ f. parent_dir m p b.0) (λ f. no_children m tree p a.0))
+    one_step m tree p (File bytes) (file_tree m tree p bytes e)
     (λ s. record { full = λ f. absurd (not_both false f refl); plain = λ f g. absurd (not_both false f refl); kept = λ f g. absurd (not_both (is_dir (at m p)) f a.0) })
 can_walk m tree (op.Del p) names e =
     let a = none_first (is_empty (at m p)) _ _ e in
-    let b = none_first (has_child (nodes_of m) p) _ _ a.1 in
-    one_step m tree p Empty (put_tree (at m) tree.tree p Empty (λ f. absurd (not_both true refl f)) (λ f. childless m tree p b.0))
+    one_step m tree p Empty (del_tree m tree p e)
     (λ s. record { full = λ f. a.0; plain = λ f g. absurd (not_both false f refl); kept = λ f g. absurd (not_both true refl g) })
 can_walk m tree (op.Label p label) names e =
     let a = none_first (is_empty (at m p)) _ _ e in
     let b = none_first (not (is_dir (at m p))) _ _ a.1 in
     let dir = turn (is_dir (at m p)) b.0 in
-    one_step m tree p (Dir label) (put_tree (at m) tree.tree p (Dir label) (λ f r up. tree.tree r p up a.0) (λ f. absurd (not_both true refl f)))
+    one_step m tree p (Dir label) (label_tree m tree p label e)
     (λ s. record { full = λ f. absurd (not_both false f refl); plain = λ f g. dir; kept = λ f g. refl })
 can_walk m tree (op.Deltree p) names e = can_clear m tree p
 can_walk m tree (op.Copy p q) names e =
-    let a = none_first (is_empty (at m p)) _ _ e in
-    let b = none_first (is_under q p) _ _ a.1 in
-    let d = none_first (not (is_empty (at m q))) _ _ b.1 in
-    let f = none_first (lacks_parent (nodes_of m) q) _ _ d.1 in
-    can_copy m tree p q names.1 (turn (is_empty (at m q)) d.0) (parent_dir m q f.0)
+    let free = are_free m p q e in
+    can_copy m tree p q names.1 free.free free.above
 can_walk m tree (op.Move p q) names e =
-    let a = none_first (is_empty (at m p)) _ _ e in
-    let b = none_first (is_under q p) _ _ a.1 in
-    let d = none_first (not (is_empty (at m q))) _ _ b.1 in
-    let f = none_first (lacks_parent (nodes_of m) q) _ _ d.1 in
-    can_move m tree p q names.0 names.1 a.0 b.0 (turn (is_empty (at m q)) d.0) (parent_dir m q f.0)
+    let free = are_free m p q e in
+    can_move m tree p q names.0 names.1 free.full free.outside free.free free.above

@@ -28,11 +28,11 @@ use Rattle.record_core.proofs.Walks.{fell_on, none_fell}
 abbrev pub step_of : Version → Store → List Change → ℕ → Op → List Op → Outcome
 step_of version m done number o ops = goes_on version done number (meaning version (nodes_of (stored m done)) o) (λ cs. outcome_from version m cs (number + 1) ops)
 
-outcome_step : (version : Version) (m : Store) (done : List Change) (number : ℕ) (o : Op) (ops : List Op) → outcome_from version m done number (o ∷ ops) ≡ step_of version m done number o ops
+pub outcome_step : (version : Version) (m : Store) (done : List Change) (number : ℕ) (o : Op) (ops : List Op) → outcome_from version m done number (o ∷ ops) ≡ step_of version m done number o ops
 unfolding outcome_from
 outcome_step version m done number o ops = refl
 
-outcome_end : (version : Version) (m : Store) (done : List Change) (number : ℕ) → outcome_from version m done number [] ≡ record { commands = done; end = AtEnd }
+pub outcome_end : (version : Version) (m : Store) (done : List Change) (number : ℕ) → outcome_from version m done number [] ≡ record { commands = done; end = AtEnd }
 unfolding outcome_from
 outcome_end version m done number = refl
 
@@ -65,6 +65,7 @@ Reaches version script k start size x y m n = (w : SinkContents) → IsRecorded 
 
 pub record IsUnderWay (version : Version) (script : List Op) (k : ℕ) (start size : LogSize) (a b : SinkState) (t u : TreeState) : Type 0 where
   pub sink_later : a.faults ≤ b.faults
+  pub sink_quiet : b.faults ≡ a.faults
   pub tree_later : NoneFell t.counts u.counts
   pub tree : IfTreeKnown t u (λ m n. ⊤)
   pub both : IfBothKnown a b t u (Reaches version script k start size)
@@ -72,6 +73,7 @@ pub record IsUnderWay (version : Version) (script : List Op) (k : ℕ) (start si
 pub script_begins : (version : Version) (script : List Op) (size : LogSize) (a : SinkState) (t : TreeState) → IsUnderWay version script 0 size size a a t t
 script_begins version script size a t = record {
   sink_later = omega arith;
+  sink_quiet = refl;
   tree_later = none_fell t.counts;
   tree = both_alone (λ m n. ⊤) t.contents (λ m. tt);
   both = both_alone (λ x y. IfBoth t.contents t.contents (Reaches version script 0 size size x y)) a.contents
@@ -99,6 +101,7 @@ pub script_on : (version : Version) (script : List Op) (k j number : ℕ) (o : O
     → IsUnderWay version script k start size a b t u → HasCause {T = Unit {0}} (Ok tt) b d u v → IfTreeKnown u v (λ m n. ⊤) → IfBothKnown b d u v (OpGoesOn version number o size next (Ok tt)) → IsUnderWay version script j start next a d t v
 script_on version script k j number o start size next a b d t u v ej en low is way cause known op = subst (λ j. IsUnderWay version script j start next a d t v) (sym ej) (record {
   sink_later = omega (arith, way.sink_later, cause.sink_later);
+  sink_quiet = cause.sink_quiet ∙ way.sink_quiet;
   tree_later = fell_on t.counts u.counts v.counts way.tree_later cause.tree_later;
   tree = both_then {R = λ m n. ⊤} t.contents u.contents v.contents way.tree known (λ m n o p q. tt);
   both = both_then {P = λ x y. IfBoth t.contents u.contents (Reaches version script k start size x y)} {Q = λ y z. IfBoth u.contents v.contents (OpGoesOn version number o size next (Ok tt) y z)} a.contents b.contents d.contents way.both op

@@ -1,17 +1,16 @@
 -- The sealed list is the one whose result the tree is, and there is one at most.
-use Rattle.std.proofs.Common.{◌≡◌, ◌⊎◌, inl, inr, ℕ, suc, Bool, true, false, not, ◌&&◌, ◌||◌, List, [], ◌∷◌, ◌++◌, length, drop, Option, Some, None, refl, sym, ap, subst, ◌∙◌, arith, length-append}
+use Rattle.std.proofs.Common.{◌≡◌, inl, inr, ℕ, Bool, true, false, not, ◌&&◌, ◌||◌, List, [], ◌∷◌, ◌++◌, length, drop, Option, Some, None, refl, sym, ap, subst, ◌∙◌, arith, length-append}
 use Rattle.std.specs.Prelude.{if◌then◌else◌, is_some}
 use Rattle.sync_path.specs.Paths.{Node, same_path}
 use Rattle.sync_path.proofs.CallerLemmas.{same_path_is, same_path_refl}
-use Rattle.sync_command.specs.declared.values.Value.{Value}
 use Rattle.sync_command.specs.Values.{same_value}
 use Rattle.sync_command.specs.Changes.{Change, is_change}
 use Rattle.sync_command.specs.Maps.{Store, at, stored}
-use Rattle.sync_command.specs.Trees.{Holding, Takes, command_at, new_or, put, result_of}
+use Rattle.sync_command.specs.Trees.{Holding, Takes, command_at, put, result_of}
 use Rattle.sync_command.proofs.CallerLemmas.{at-stored, put_here, same_value_at}
 use Rattle.canon_set.specs.Logs.{all_change, names, touches}
 use Rattle.canon_set.proofs.CallerLemmas.{is_some-touches, result_touched}
-use Rattle.record_core.specs.Seals.{Diverges, HoldsLast, IsAllOrAllButLast, IsInOrder, IsSealed, IsUndone, OpenLog}
+use Rattle.record_core.specs.Seals.{Diverges, HoldsLast, IsAllOrAllButLast, IsSealed, IsUndone, OpenLog}
 
 -- ---- what stands
 

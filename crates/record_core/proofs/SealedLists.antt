@@ -1,29 +1,27 @@
 -- What the touched nodes of a log show of its sealed list.
-use Rattle.std.proofs.Common.{◌≡◌, ◌⊎◌, inl, inr, ◌<◌, ◌≤◌, get_or, ℕ, zero, suc, ◌-◌, Bool, true, false, not, ◌&&◌, List, [], ◌∷◌, ◌++◌, length, Option, Some, None, Result, Ok, Err, refl, sym, ap, subst, ◌∙◌, arith}
-use Rattle.std.specs.Prelude.{⊤, if◌then◌else◌, slice_get, map, is_none}
+use Rattle.std.proofs.Common.{◌≡◌, ◌⊎◌, inl, inr, ◌<◌, ◌≤◌, get_or, ℕ, zero, suc, ◌-◌, Bool, true, false, List, [], ◌∷◌, ◌++◌, length, Option, Some, None, Ok, refl, sym, ap, subst, ◌∙◌, arith}
+use Rattle.std.specs.Prelude.{if◌then◌else◌, slice_get, is_none}
 use Rattle.std.specs.Option.{option_map}
 use Rattle.std.specs.List.{AllByRecursion}
 use Rattle.std.proofs.lemmas.List.{length-map}
 use Rattle.std.proofs.lemmas.Option.{slice_get-map, slice_get_cases}
 use Rattle.sync_path.specs.Paths.{Node, comes_before, same_path}
-use Rattle.sync_path.proofs.CallerLemmas.{same_path_at, same_path_is, same_path_refl}
+use Rattle.sync_path.proofs.CallerLemmas.{same_path_at, same_path_is}
 use Rattle.sync_command.specs.Changes.{Change}
 use Rattle.sync_command.specs.Trees.{Holding, command_at, one_each}
 use Rattle.sync_command.specs.Maps.{Store, at}
 use Rattle.sync_command.proofs.CallerLemmas.{command_at-node}
-use Rattle.log_text.specs.Logs.{IsOfVersion}
-use Rattle.canon_set.specs.Logs.{IsTaken, names, touches}
+use Rattle.canon_set.specs.Logs.{names, touches}
 use Rattle.canon_set.specs.Sums.{Sum, StandsFor, table_of, touch_of}
 use Rattle.canon_set.specs.declared.touches.Touch.{Touch}
 use Rattle.canon_set.proofs.CallerLemmas.{named_touch, one_each-touches}
 use Rattle.tree_port.specs.States.{IfHeld}
-use Rattle.tree_port.specs.declared.faults.TreeFault.{TreeFault}
 use Rattle.record_core.specs.declared.faults.SealFault.{SealFault}
 use Rattle.record_core.specs.declared.faults.SealFault.TheVariants.{Text, Broken, Diverged, Failed, Denied, Memory}
 use Rattle.record_core.specs.declared.sealing.Shown.{Shown}
 use Rattle.record_core.specs.declared.sealing.Shown.TheVariants as shown
-use Rattle.record_core.specs.Looks.{HoldsOld, IsAmong, IsDiverged, IsFirstOut, IsShownWithin, Shows, StandsWell, IsRightLook, open_command}
-use Rattle.record_core.specs.Seals.{Diverges, FailsLog, FailsText, HoldsLast, IsInOrder, IsLogOf, IsSealed, IsUndone, OpenLog, SealsLog}
+use Rattle.record_core.specs.Looks.{HoldsOld, IsAmong, IsDiverged, IsFirstOut, Shows, StandsWell, IsRightLook, open_command}
+use Rattle.record_core.specs.Seals.{Diverges, FailsLog, FailsText, IsInOrder, IsLogOf, IsSealed, OpenLog, SealsLog}
 
 -- ---- lists
 

@@ -64,6 +64,7 @@ first_of steps k m = changes_of (at m) (take k steps)
 -- these steps were recorded
 pub record IsWalked (steps : List Step) (k : ℕ) (a b : SinkState) (t u : TreeState) : Type 0 where
   pub sink_later : a.faults ≤ b.faults
+  pub sink_quiet : b.faults ≡ a.faults
   pub tree_later : NoneFell t.counts u.counts
   pub tree : IfTreeKnown t u (λ m n. n ≡ stored m (first_of steps k m))
   pub both : IfBothKnown a b t u (λ x y m n. GoesOn {T = Unit {0}} (first_of steps k m) (Ok tt) x y m n)
@@ -71,6 +72,7 @@ pub record IsWalked (steps : List Step) (k : ℕ) (a b : SinkState) (t u : TreeS
 pub walk_begins : (steps : List Step) (a : SinkState) (t : TreeState) → IsWalked steps 0 a a t t
 walk_begins steps a t = record {
   sink_later = omega arith;
+  sink_quiet = refl;
   tree_later = none_fell t.counts;
   tree = both_alone (λ m n. n ≡ m) t.contents (λ m. refl);
   both = both_alone (λ x y. IfTreeKnown t t (λ m n. GoesOn {T = Unit {0}} [] (Ok tt) x y m n)) a.contents (λ x. both_alone (λ m n. GoesOn {T = Unit {0}} [] (Ok tt) x x m n) t.contents (λ n. nothing_done x n));
@@ -174,6 +176,7 @@ pub walk_on : (steps : List Step) (k j : ℕ) (s : Step) (a b d : SinkState) (t 
     → IsWalked steps k a b t u → HasCause {T = Unit {0}} (Ok tt) b d u v → IfTreeKnown u v (λ n o. o ≡ stored n (change_of (at n) s ∷ [])) → IfBothKnown b d u v (λ x y n o. GoesOn {T = Unit {0}} (change_of (at n) s ∷ []) (Ok tt) x y n o) → IsWalked steps j a d t v
 walk_on steps k j s a b d t u v e can low is w cause tree both = subst (λ j. IsWalked steps j a d t v) (sym e) (record {
   sink_later = omega (arith, w.sink_later, cause.sink_later);
+  sink_quiet = cause.sink_quiet ∙ w.sink_quiet;
   tree_later = fell_on t.counts u.counts v.counts w.tree_later cause.tree_later;
   tree = both_then t.contents u.contents v.contents (both_and {R = λ m n. (n ≡ stored m (first_of steps k m)) × SameNext s m n} t.contents u.contents w.tree same (λ m n p q. (p, q))) tree
       (λ m n o p q. q ∙ ap (λ n. stored n (change_of (at n) s ∷ [])) p.0 ∙ ap (λ c. stored (stored m (first_of steps k m)) (c ∷ [])) (ap (λ n. change_of (at n) s) (sym p.0) ∙ p.1)

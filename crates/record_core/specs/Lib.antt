@@ -10,3 +10,4 @@ pub mod Plans
 pub mod Outcomes
 pub mod Looks
 pub mod Seals
+pub mod Validity

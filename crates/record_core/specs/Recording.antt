@@ -1,5 +1,5 @@
 -- What a recording leaves of a sink and a tree, whatever it answers.
-use Rattle.std.specs.Prelude.{⊤, ◌≡◌, ◌⊎◌, ◌≤◌, ℕ, List, [], ◌∷◌, ◌++◌, length, take, IsErrOf, Result, Ok, Err}
+use Rattle.std.specs.Prelude.{⊤, ◌≡◌, ◌⊎◌, ◌≤◌, ℕ, List, [], ◌∷◌, ◌++◌, length, take, IsErrOf, OnOk, Result, Ok, Err}
 use Rattle.sync_command.specs.declared.values.Version.{Version}
 use Rattle.sync_command.specs.Changes.{Change}
 use Rattle.sync_command.specs.Maps.{Store, stored}
@@ -13,9 +13,10 @@ use Rattle.record_core.specs.Texts.{first_line, line_of, end_line_of, open_text,
 
 -- ---- causes
 
--- no count fell, and each fault of the sink or the tree was counted there
+-- no count fell, each fault of the sink or the tree was counted there, and after Ok no fault of the sink was
 pub record HasCause {T : Type 0} (result : Result T RecordFault) (x y : SinkState) (t u : TreeState) : Type 0 where
   pub sink_later : x.faults ≤ y.faults
+  pub sink_quiet : OnOk result (y.faults ≡ x.faults)
   pub tree_later : NoneFell t.counts u.counts
   pub write : IsErrOf result WriteFault → FaultCounted x y
   pub failed : IsErrOf result TreeFailed → IsCounted t.counts.faults u.counts.faults

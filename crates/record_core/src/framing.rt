@@ -1,6 +1,6 @@
 //! The first line of a log, and its end line.
 
-ghost use Rattle.std.specs.Prelude.{◌≡◌, ◌⊎◌, ◌≤◌, IfErr, IfOk, IsErrOf};
+ghost use Rattle.std.specs.Prelude.{◌≡◌, ◌⊎◌, ◌≤◌, IfErr, IfOk, IsErrOf, OnOk};
 ghost use Rattle.log_text.specs.Frame.{ended, end_line};
 ghost use Rattle.sync_port.specs.States.{FaultCounted, IfKnown};
 ghost use Rattle.record_core.specs.Recording.{Begins, Closes};
@@ -27,6 +27,7 @@ fn first_line(version: Version) -> &'static [u8]
 /// Writes the first line and flushes it.
 pub(crate) fn open_log<O: Sink>(sink: &mut O, version: Version) -> Result<(), RecordFault>
     ensures later { (O.sink sink.old).faults ≤ (O.sink sink.new).faults }
+    ensures quiet { OnOk result ((O.sink sink.new).faults ≡ (O.sink sink.old).faults) }
     ensures write { IsErrOf result RecordFault.WriteFault →
         FaultCounted (O.sink sink.old) (O.sink sink.new) }
     ensures only { IfErr result (λ e. e ≡ RecordFault.WriteFault) }
@@ -50,6 +51,7 @@ pub(crate) fn end_line_of(alloc: Global, count: u64) -> Result<Vec<u8>, NoMemory
 /// Writes the end line of a log of so many commands and flushes it.
 pub(crate) fn close_log<O: Sink>(alloc: Global, sink: &mut O, count: u64) -> Result<(), RecordFault>
     ensures later { (O.sink sink.old).faults ≤ (O.sink sink.new).faults }
+    ensures quiet { OnOk result ((O.sink sink.new).faults ≡ (O.sink sink.old).faults) }
     ensures write { IsErrOf result RecordFault.WriteFault →
         FaultCounted (O.sink sink.old) (O.sink sink.new) }
     ensures fault { IfErr result
