@@ -1,7 +1,8 @@
 """A plain program of the definitions in docs/MODEL.md and docs/FORMATS.md, slow and small, to compare the program with.
 
-It knows the texts of logs, snapshots and preferences with their faults, and the answers of `replay`, `canon`, `merge`,
-`conflicts`, `transition` and `steer`. An answer is the status, the output and the line of a refusal.
+It knows the texts of logs, snapshots, preferences and scripts with their faults, the answers of `replay`, `canon`,
+`merge`, `conflicts`, `transition` and `steer`, and what `record` does to a tree. An answer is the status, the output and
+the line of a refusal.
 """
 
 import re
@@ -128,10 +129,34 @@ def rule_line(line, _version, before):
     return fields[0], int(fields[1]), path
 
 
+def script_line(line, version, before):
+    fields = line.split(b" ")
+    short, long = {b"mkdir", b"del", b"deltree"}, {b"put", b"move", b"copy"} | ({b"label"} if version == 2 else set())
+    if not (len(fields) == 2 and fields[0] in short or len(fields) == 3 and fields[0] in long):
+        raise ValueError("fields")
+    if len(before) >= MOST:
+        raise ValueError("too-many")
+    path = read_path(fields[1])
+    if path is None:
+        raise ValueError("path")
+    if len(fields) == 2:
+        return fields[0], path, None
+    if fields[0] in (b"move", b"copy"):
+        other = read_path(fields[2])
+        if other is None:
+            raise ValueError("path")
+        return fields[0], path, other
+    value = read_value(fields[2], version)
+    if value is None or value[0] != ("f" if fields[0] == b"put" else "d"):
+        raise ValueError("value")
+    return fields[0], path, value
+
+
 FORMS = {
     "log": ({b"treelog 1": 1, b"treelog 2": 2}, log_line),
     "snapshot": ({b"treesnap 1": 1, b"treesnap 2": 2}, snapshot_line),
     "preferences": ({b"treeprefs 1": 1}, rule_line),
+    "script": ({b"treescript 1": 1, b"treescript 2": 2}, script_line),
 }
 
 
@@ -257,6 +282,68 @@ def fits(tree, commands):
     for path, _, new in commands:
         after = put(after, path, new)
     return after if is_tree(after) else None
+
+
+# ---- scripts
+
+
+def subtree(tree, path):
+    return sorted(p for p in tree if p[: len(path)] == path)
+
+
+def reasons(tree, operation):
+    """The reasons that can refuse an operation, in their order, each with whether it applies."""
+    word, path, other = operation
+    held = value_at(tree, path)
+
+    def no_parent(place):
+        return len(place) > 1 and value_at(tree, place[:-1])[0] != "d", "no-parent"
+
+    missing = held == EMPTY, "missing"
+    if word == b"mkdir":
+        return [(held != EMPTY, "exists"), no_parent(path)]
+    if word == b"put":
+        return [(held[0] == "d", "is-dir"), no_parent(path)]
+    if word == b"del":
+        return [missing, (any(p[:-1] == path for p in tree), "not-empty")]
+    if word == b"label":
+        return [missing, (held[0] != "d", "not-dir")]
+    if word == b"deltree":
+        return [missing]
+    inside = len(other) > len(path) and other[: len(path)] == path
+    deep = any(len(other) + len(p) - len(path) > 64 for p in subtree(tree, path))
+    return [missing, (inside, "inside"), (value_at(tree, other) != EMPTY, "exists"), no_parent(other), (deep, "too-deep")]
+
+
+def commands_of(tree, operation):
+    word, path, other = operation
+    held = value_at(tree, path)
+    if word in (b"mkdir", b"put", b"del", b"label"):
+        new = {b"mkdir": DIRECTORY, b"del": EMPTY}.get(word, other)
+        return [(path, held, new)] if new != held else []
+    gone = [(p, tree[p], EMPTY) for p in reversed(subtree(tree, path))]
+    made = [(other + p[len(path) :], EMPTY, tree[p]) for p in subtree(tree, path)] if word != b"deltree" else []
+    return made + (gone if word != b"copy" else [])
+
+
+def record(tree, text, word):
+    """The tree after a script, and the answer."""
+    try:
+        version, operations = read("script", text, word)
+    except Fault as fault:
+        return tree, (fault.status, b"", b"treesync: " + fault.line + b"\n")
+    done = []
+    for number, operation in enumerate(operations, 1):
+        commands = commands_of(tree, operation)
+        labelled = version == 1 and any(value[0] == "d" and value[1] for c in commands for value in c[1:])
+        for applies, reason in [*reasons(tree, operation), (labelled, "labelled")]:
+            if applies:
+                line = b"treesync: %s: line %d: %s\n" % (word, number + 1, reason.encode())
+                return tree, (15, log_text(version, done), line)
+        for command in commands:
+            tree = applied(tree, command)
+        done += commands
+    return tree, (0, log_text(version, done), b"")
 
 
 # ---- joining, ranking and merging

@@ -4,7 +4,7 @@ _treesync() {
   local word=${COMP_WORDS[COMP_CWORD]} place=$((COMP_CWORD - 2)) shape=() kind
   COMPREPLY=()
   if [ "$COMP_CWORD" -eq 1 ]; then
-    mapfile -t COMPREPLY < <(compgen -W "replay canon conflicts merge transition steer seal apply drill help" -- "$word")
+    mapfile -t COMPREPLY < <(compgen -W "replay canon conflicts merge transition steer record seal apply drill help" -- "$word")
     return
   fi
   case ${COMP_WORDS[1]} in
@@ -14,6 +14,7 @@ _treesync() {
     merge) shape=(prefs file ...) ;;
     transition) shape=(prefs number file ...) ;;
     steer) shape=(file file ...) ;;
+    record) shape=(folder file) ;;
     seal) shape=(folder file) ;;
     apply) shape=(folder file) ;;
     drill) shape=(number number number) ;;

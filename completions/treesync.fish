@@ -7,6 +7,7 @@ complete -c treesync -n __fish_use_subcommand -a conflicts -d 'LOG...'
 complete -c treesync -n __fish_use_subcommand -a merge -d '[--prefs FILE] LOG...'
 complete -c treesync -n __fish_use_subcommand -a transition -d '[--prefs FILE] N LOG...'
 complete -c treesync -n __fish_use_subcommand -a steer -d 'SET LOG...'
+complete -c treesync -n __fish_use_subcommand -a record -d 'FOLDER SCRIPT'
 complete -c treesync -n __fish_use_subcommand -a seal -d 'FOLDER LOG'
 complete -c treesync -n __fish_use_subcommand -a apply -d 'FOLDER SET'
 complete -c treesync -n __fish_use_subcommand -a drill -d 'SEED LOGS STEPS'
@@ -21,6 +22,8 @@ complete -c treesync -n '__fish_seen_subcommand_from transition; and test (count
 complete -c treesync -n '__fish_seen_subcommand_from transition; and test (count (commandline -opc)) -ge 3' -F
 complete -c treesync -n '__fish_seen_subcommand_from steer; and test (count (commandline -opc)) -ge 2 -a (count (commandline -opc)) -le 2' -F
 complete -c treesync -n '__fish_seen_subcommand_from steer; and test (count (commandline -opc)) -ge 3' -F
+complete -c treesync -n '__fish_seen_subcommand_from record; and test (count (commandline -opc)) -ge 2 -a (count (commandline -opc)) -le 2' -a '(__fish_complete_directories)'
+complete -c treesync -n '__fish_seen_subcommand_from record; and test (count (commandline -opc)) -ge 3 -a (count (commandline -opc)) -le 3' -F
 complete -c treesync -n '__fish_seen_subcommand_from seal; and test (count (commandline -opc)) -ge 2 -a (count (commandline -opc)) -le 2' -a '(__fish_complete_directories)'
 complete -c treesync -n '__fish_seen_subcommand_from seal; and test (count (commandline -opc)) -ge 3 -a (count (commandline -opc)) -le 3' -F
 complete -c treesync -n '__fish_seen_subcommand_from apply; and test (count (commandline -opc)) -ge 2 -a (count (commandline -opc)) -le 2' -a '(__fish_complete_directories)'

@@ -14,7 +14,7 @@ use Rattle.tool_words.specs.Words.{Operand, Text, numbered, one_operand, plain_o
 use Rattle.tool_words.specs.declared.commands.Verb.{Verb}
 use Rattle.tool_words.specs.declared.commands.Verb.TheVariants as verb
 use Rattle.tool_words.specs.declared.job.Job.{Job}
-use Rattle.tool_words.specs.declared.job.Job.TheVariants.{Help, Replay, Canon, Conflicts, Merge, Transition, Steer, Seal, Apply, Drill}
+use Rattle.tool_words.specs.declared.job.Job.TheVariants.{Help, Replay, Canon, Conflicts, Merge, Transition, Steer, Record, Seal, Apply, Drill}
 use Rattle.tool_words.specs.LogCounts.{HasFewLogs}
 
 -- each job that there is has few logs
@@ -116,6 +116,7 @@ few_verb verb.Conflicts operands = few_only (plain_of operands)
 few_verb verb.Merge operands = few_parts (parts_of operands)
 few_verb verb.Transition operands = few_number (parts_of operands)
 few_verb verb.Steer operands = few_first (plain_of operands)
+few_verb verb.Record operands = few_pair Record (λ a b. tt) (two_operands operands)
 few_verb verb.Seal operands = few_pair Seal (λ a b. tt) (two_operands operands)
 few_verb verb.Drill operands = few_drill (three_operands operands)
 few_verb verb.Apply operands = few_pair Apply (λ a b. tt) (two_operands operands)

@@ -16,7 +16,7 @@ use Rattle.tool_words.specs.Trees.{asked_folders, folder_places, has_folder, job
 use Rattle.tool_words.specs.declared.commands.Verb.{Verb}
 use Rattle.tool_words.specs.declared.commands.Verb.TheVariants as verb
 use Rattle.tool_words.specs.declared.job.Job.{Job}
-use Rattle.tool_words.specs.declared.job.Job.TheVariants.{Help, Replay, Canon, Conflicts, Merge, Transition, Steer, Seal, Apply, Drill}
+use Rattle.tool_words.specs.declared.job.Job.TheVariants.{Help, Replay, Canon, Conflicts, Merge, Transition, Steer, Record, Seal, Apply, Drill}
 use Rattle.tool_words.proofs.Places.{numbered_plain}
 
 -- a job that names no folder, made of what there is
@@ -47,6 +47,7 @@ takes_none (Some verb.Conflicts) operands e = no_folder Conflicts (λ logs. refl
 takes_none (Some verb.Merge) operands e = no_folder (λ (parts : Option Operand × List Operand). Merge parts.0 parts.1) (λ parts. refl) (prefs_logs operands)
 takes_none (Some verb.Transition) operands e = of_transition (prefs_first_logs operands)
 takes_none (Some verb.Steer) operands e = no_folder (λ (pair : Operand × List Operand). Steer pair.0 pair.1) (λ pair. refl) (first_logs operands)
+takes_none (Some verb.Record) operands e = absurd (true≢false e)
 takes_none (Some verb.Seal) operands e = absurd (true≢false e)
 takes_none (Some verb.Apply) operands e = absurd (true≢false e)
 takes_none (Some verb.Drill) operands e = of_drill (three_operands operands)
@@ -69,6 +70,7 @@ takes_first (Some verb.Conflicts) operands e = absurd (true≢false (sym e))
 takes_first (Some verb.Merge) operands e = absurd (true≢false (sym e))
 takes_first (Some verb.Transition) operands e = absurd (true≢false (sym e))
 takes_first (Some verb.Steer) operands e = absurd (true≢false (sym e))
+takes_first (Some verb.Record) operands e = first_folder Record (λ a b. refl) (two_operands operands)
 takes_first (Some verb.Seal) operands e = first_folder Seal (λ a b. refl) (two_operands operands)
 takes_first (Some verb.Apply) operands e = first_folder Apply (λ a b. refl) (two_operands operands)
 takes_first (Some verb.Drill) operands e = absurd (true≢false (sym e))

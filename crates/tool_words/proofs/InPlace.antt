@@ -12,7 +12,7 @@ use Rattle.tool_words.specs.Operands.{AreInPlace, job_operands, operands_in, ope
 use Rattle.tool_words.specs.declared.commands.Verb.{Verb}
 use Rattle.tool_words.specs.declared.commands.Verb.TheVariants as verb
 use Rattle.tool_words.specs.declared.job.Job.{Job}
-use Rattle.tool_words.specs.declared.job.Job.TheVariants.{Help, Replay, Canon, Conflicts, Merge, Transition, Steer, Seal, Apply, Drill}
+use Rattle.tool_words.specs.declared.job.Job.TheVariants.{Help, Replay, Canon, Conflicts, Merge, Transition, Steer, Record, Seal, Apply, Drill}
 use Rattle.tool_words.proofs.Places.{numbered_plain}
 use Rattle.tool_words.proofs.Walks.{is_not}
 use Rattle.tool_words.proofs.PrefsOption.{IsPlainFile, Opening, Parted, equals, parted, placed, plain, skipped, spelled, word}
@@ -175,6 +175,7 @@ in_place (Some verb.Conflicts) name words = conflicts_in_place name words
 in_place (Some verb.Merge) name words = merge_in_place name words
 in_place (Some verb.Transition) name words = transition_in_place name words
 in_place (Some verb.Steer) name words = steer_in_place name words
+in_place (Some verb.Record) name words = two_in_place Record (λ a b. refl) name words
 in_place (Some verb.Seal) name words = two_in_place Seal (λ a b. refl) name words
 in_place (Some verb.Drill) name words = drill_in_place (name ∷ words) (three_operands (numbered 1 words))
 in_place (Some verb.Apply) name words = two_in_place Apply (λ a b. refl) name words

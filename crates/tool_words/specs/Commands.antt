@@ -4,7 +4,7 @@ use Rattle.std.specs.Str.{bytes_eq}
 use Rattle.tool_words.specs.Words.{Text}
 use Rattle.tool_words.specs.declared.commands.CommandShape.{CommandShape}
 use Rattle.tool_words.specs.declared.commands.Verb.{Verb}
-use Rattle.tool_words.specs.declared.commands.Verb.TheVariants.{Replay, Canon, Conflicts, Merge, Transition, Steer, Seal, Apply, Drill}
+use Rattle.tool_words.specs.declared.commands.Verb.TheVariants.{Replay, Canon, Conflicts, Merge, Transition, Steer, Record, Seal, Apply, Drill}
 
 -- what a command does, its name, and its operands as the help shows them
 pub record Shape : Type 0 where
@@ -25,6 +25,7 @@ commands =
     ∷ record { verb = Merge; name = codes "merge"; operands = codes "[--prefs FILE] LOG..." }
     ∷ record { verb = Transition; name = codes "transition"; operands = codes "[--prefs FILE] N LOG..." }
     ∷ record { verb = Steer; name = codes "steer"; operands = codes "SET LOG..." }
+    ∷ record { verb = Record; name = codes "record"; operands = codes "FOLDER SCRIPT" }
     ∷ record { verb = Seal; name = codes "seal"; operands = codes "FOLDER LOG" }
     ∷ record { verb = Apply; name = codes "apply"; operands = codes "FOLDER SET" }
     ∷ record { verb = Drill; name = codes "drill"; operands = codes "SEED LOGS STEPS" }

@@ -8,7 +8,7 @@ use Rattle.tool_words.specs.Commands.{commands, verb_in}
 use Rattle.tool_words.specs.declared.commands.Verb.{Verb}
 use Rattle.tool_words.specs.declared.commands.Verb.TheVariants as verb
 use Rattle.tool_words.specs.declared.job.Job.{Job}
-use Rattle.tool_words.specs.declared.job.Job.TheVariants.{Help, Replay, Canon, Conflicts, Merge, Transition, Steer, Seal, Apply, Drill}
+use Rattle.tool_words.specs.declared.job.Job.TheVariants.{Help, Replay, Canon, Conflicts, Merge, Transition, Steer, Record, Seal, Apply, Drill}
 
 -- the only word asks for the help
 abbrev pub is_help : List Text → Bool
@@ -33,6 +33,7 @@ operands_job verb.Conflicts operands = option_map Conflicts (only_logs operands)
 operands_job verb.Merge operands = option_map (λ parts. Merge parts.0 parts.1) (prefs_logs operands)
 operands_job verb.Transition operands = option_and_then transition_of (prefs_first_logs operands)
 operands_job verb.Steer operands = option_map (λ pair. Steer pair.0 pair.1) (first_logs operands)
+operands_job verb.Record operands = option_map (λ pair. Record pair.0 pair.1) (two_operands operands)
 operands_job verb.Seal operands = option_map (λ pair. Seal pair.0 pair.1) (two_operands operands)
 operands_job verb.Apply operands = option_map (λ pair. Apply pair.0 pair.1) (two_operands operands)
 operands_job verb.Drill operands = option_and_then drill_of (three_operands operands)

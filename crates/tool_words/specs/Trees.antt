@@ -7,10 +7,11 @@ use Rattle.tool_words.specs.Jobs.{job_of}
 use Rattle.tool_words.specs.declared.commands.Verb.{Verb}
 use Rattle.tool_words.specs.declared.commands.Verb.TheVariants as verb
 use Rattle.tool_words.specs.declared.job.Job.{Job}
-use Rattle.tool_words.specs.declared.job.Job.TheVariants.{Seal, Apply}
+use Rattle.tool_words.specs.declared.job.Job.TheVariants.{Record, Seal, Apply}
 
 -- a command's first operand names a folder
 abbrev pub takes_folder : Option Verb → Bool
+takes_folder (Some verb.Record) = true
 takes_folder (Some verb.Seal) = true
 takes_folder (Some verb.Apply) = true
 takes_folder _ = false
@@ -23,6 +24,7 @@ has_folder (name ∷ operands) =
 
 -- the operands of a job that name folders
 abbrev pub job_folders : Job → List Operand
+job_folders (Record folder script) = folder ∷ []
 job_folders (Seal folder log) = folder ∷ []
 job_folders (Apply folder set) = folder ∷ []
 job_folders _ = []

@@ -18,6 +18,7 @@ pub(crate) enum Verb {
     Merge,
     Transition,
     Steer,
+    Record,
     Seal,
     Apply,
     Drill,
@@ -32,7 +33,7 @@ pub(crate) struct CommandShape {
 }
 
 /// The commands that are built, in the order of the help.
-pub(crate) const COMMANDS: [CommandShape; 9] = [
+pub(crate) const COMMANDS: [CommandShape; 10] = [
     CommandShape {
         verb: Verb::Replay,
         name: "replay",
@@ -62,6 +63,11 @@ pub(crate) const COMMANDS: [CommandShape; 9] = [
         verb: Verb::Steer,
         name: "steer",
         operands: "SET LOG...",
+    },
+    CommandShape {
+        verb: Verb::Record,
+        name: "record",
+        operands: "FOLDER SCRIPT",
     },
     CommandShape {
         verb: Verb::Seal,

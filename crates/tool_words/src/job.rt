@@ -84,6 +84,12 @@ pub enum Job<'a> {
         set: Word<'a>,
         logs: FileList<'a>,
     },
+    /// Carry out the script in the file `script` on the tree in `folder`, and print the log of
+    /// what that changes, each line before its change.
+    Record {
+        folder: Word<'a>,
+        script: Word<'a>,
+    },
     /// Print the log that a stopped recording left in the file `log`, as far as the tree in
     /// `folder` has it.
     Seal {

@@ -104,6 +104,10 @@ fn read_operands<'a>(
             let (set, logs) = first_and_logs(alloc, name, words)?;
             Ok(Job::Steer { set, logs })
         }
+        Verb::Record => {
+            let (folder, script) = two_operands(alloc, name, words)?;
+            Ok(Job::Record { folder, script })
+        }
         Verb::Seal => {
             let (folder, log) = two_operands(alloc, name, words)?;
             Ok(Job::Seal { folder, log })
@@ -122,8 +126,8 @@ fn read_operands<'a>(
 /// `help` or `--help` alone is the help. Any other words are the name of a command that is built,
 /// and the operands that the help lists for it, no more and no fewer, where LOG... is one log to
 /// 64. `--prefs FILE` or `--prefs=FILE` may stand right after a command that the help shows it
-/// for. FILE and each operand is not empty and does not begin with a dash. Refused comes only where the words are no such job, and is the answer to
-/// all such words but where memory ran out.
+/// for. FILE and each operand is not empty and does not begin with a dash. Refused comes only where
+/// the words are no such job, and is the answer to all such words but where memory ran out.
 pub fn read_words<'a>(alloc: Global, words: &'a [String]) -> Result<Job<'a>, WordFault>
     ensures ok { IfOk result (λ job. job_of (texts_of words.entry.now) ≡ Some job) }
     ensures refused { IsErrOf result Refused → job_of (texts_of words.entry.now) ≡ None }

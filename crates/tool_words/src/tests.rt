@@ -78,6 +78,10 @@ fn job_text(alloc: Global, line: &str) -> Result<String, AllocError> {
             let (set, logs) = (word_text(alloc, set)?, logs_text(alloc, logs)?);
             format!(in alloc; "steer {set} {logs}")
         }
+        Ok(Job::Record { folder, script }) => {
+            let (folder, script) = (word_text(alloc, folder)?, word_text(alloc, script)?);
+            format!(in alloc; "record {folder} {script}")
+        }
         Ok(Job::Seal { folder, log }) => {
             let (folder, log) = (word_text(alloc, folder)?, word_text(alloc, log)?);
             format!(in alloc; "seal {folder} {log}")
@@ -94,14 +98,14 @@ fn job_text(alloc: Global, line: &str) -> Result<String, AllocError> {
 
 /// How many operands of a job name folders.
 fn count_folders(job: &str) -> usize {
-    if job.starts_with("seal ") || job.starts_with("apply ") {
+    if job.starts_with("record ") || job.starts_with("seal ") || job.starts_with("apply ") {
         1
     } else {
         0
     }
 }
 
-const CASES: [(&str, &str); 57] = [
+const CASES: [(&str, &str); 59] = [
     ("help", "help"),
     ("--help", "help"),
     ("replay s l1", "replay 1=s 2=l1"),
@@ -128,6 +132,7 @@ const CASES: [(&str, &str); 57] = [
     ("apply w m", "apply 1=w 2=m"),
     ("drill 2147483647 64 16384", "drill 2147483647 64 16384"),
     ("drill 0 1 0", "drill 0 1 0"),
+    ("record w c", "record 1=w 2=c"),
     ("seal w l", "seal 1=w 2=l"),
     ("", "refused"),
     ("frob", "refused"),
@@ -162,6 +167,7 @@ const CASES: [(&str, &str); 57] = [
     ("drill 0 1 16385", "refused"),
     ("drill 0 01 0", "refused"),
     ("drill 0 1 0 0", "refused"),
+    ("record w c c", "refused"),
     ("seal w", "refused"),
     ("steer m", "refused"),
     ("steer --prefs=p m l1", "refused"),
@@ -197,6 +203,6 @@ fn jobs_are_read(rt: HostRuntime) -> Result<(), AllocError> {
 fn the_help_has_a_line_for_each_command(rt: HostRuntime) {
     let text = help(rt.alloc()).expect(&rt, "memory");
     let wanted =
-        "usage: treesync COMMAND WORDS\n  replay SNAP LOG\n  canon LOG\n  conflicts LOG...\n  merge [--prefs FILE] LOG...\n  transition [--prefs FILE] N LOG...\n  steer SET LOG...\n  seal FOLDER LOG\n  apply FOLDER SET\n  drill SEED LOGS STEPS\n";
+        "usage: treesync COMMAND WORDS\n  replay SNAP LOG\n  canon LOG\n  conflicts LOG...\n  merge [--prefs FILE] LOG...\n  transition [--prefs FILE] N LOG...\n  steer SET LOG...\n  record FOLDER SCRIPT\n  seal FOLDER LOG\n  apply FOLDER SET\n  drill SEED LOGS STEPS\n";
     assert_eq!(rt; text.as_slice(), wanted.as_bytes());
 }

@@ -69,6 +69,24 @@ pub const DOES_NOT_FIT: &str = "does not fit at ";
 pub const CAN_ADD_LOG: &str = "can add log ";
 /// Between that number and the command's path.
 pub const AT: &str = " at ";
+/// An operation of a script is refused, as are all down to `LABELLED`: its node is empty (status 15).
+pub const MISSING: &str = "missing";
+/// Something is at its node.
+pub const EXISTS: &str = "exists";
+/// The parent of its node is no directory.
+pub const NO_PARENT: &str = "no-parent";
+/// Its node is a directory.
+pub const IS_DIR: &str = "is-dir";
+/// Its node has a child.
+pub const NOT_EMPTY: &str = "not-empty";
+/// Its second path is under its first.
+pub const INSIDE: &str = "inside";
+/// A path would have too many names.
+pub const TOO_DEEP: &str = "too-deep";
+/// Its node is no directory.
+pub const NOT_DIR: &str = "not-dir";
+/// A label would stand in a log of version 1.
+pub const LABELLED: &str = "labelled";
 /// Memory ran out (status 16).
 pub const OUT_OF_MEMORY: &str = "out of memory";
 /// The snapshot's tree does not take a command of the log (status 17).

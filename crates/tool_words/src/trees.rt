@@ -14,7 +14,7 @@ fn is_folder_command(name: &str) -> bool
     ensures { result ≡ takes_folder (verb_in commands name.now) }
 {
     match verb_of(name) {
-        Some(Verb::Seal | Verb::Apply) => true,
+        Some(Verb::Record | Verb::Seal | Verb::Apply) => true,
         _ => false,
     }
 }

@@ -1,24 +1,22 @@
 -- The headline of applying follows from what a run owes.
-use Rattle.std.proofs.Common.{false, ◌≡◌, ◌⊎◌, ◌≤◌, ◌+◌, ℕ, List, [], ◌∷◌, length, Option, None, Some, Result, Ok, Err, IfOk, inl, inr, refl, sym, ap, subst, ◌∙◌, arith}
-use Rattle.std.specs.List.{sum_by}
+use Rattle.std.proofs.Common.{false, ◌≡◌, ◌⊎◌, ◌≤◌, ℕ, List, [], ◌∷◌, length, Option, None, Some, Result, Ok, Err, IfOk, inl, inr, refl, sym, ap, subst, ◌∙◌, arith}
 use Rattle.std.proofs.lemmas.List.Sums.{sum_by-cons}
 use Rattle.sync_command.specs.Changes.{Change}
 use Rattle.sync_command.specs.Maps.{Store, at}
 use Rattle.sync_command.specs.Trees.{after}
 use Rattle.sync_port.specs.Ports.{FileContents, Names, SinkState}
-use Rattle.sync_port.specs.States.{FaultCounted, IfBoth}
-use Rattle.tree_port.specs.States.{Counts, IsCounted, TreeState}
+use Rattle.sync_port.specs.States.{IfBoth}
+use Rattle.tree_port.specs.States.{TreeState}
 use Rattle.resume_apply.specs.Finishing.{IsPaid}
 use Rattle.resume_apply.specs.Ready.{IsOnItsWay, IsReady, work}
 use Rattle.tool_words.specs.Jobs.{job_of}
 use Rattle.tool_words.specs.Words.{Operand, Text}
 use Rattle.tool_words.specs.declared.job.Job.TheVariants.{Apply}
-use Rattle.treesync.specs.Apply.{Applies, IsAppliedTo, IsApply, IsSetOf, applied_text}
-use Rattle.treesync.specs.Checks.{IsAllowed}
+use Rattle.treesync.specs.Apply.{Applies, IsApply, IsSetOf, applied_text}
 use Rattle.treesync.specs.Ends.{Prints}
 use Rattle.treesync.specs.Headline.{CompletesOnTree, Gains, GainsApplied, GoesOn, HoldsSet, KeepsUnready, Paid, PrintsApplied, Recorded, ResumesApply, text_of}
-use Rattle.treesync.specs.Jobs.{AppliesFile, IsSetHeld, InputsCounted, IsAnswer, IsCountedByFirst, IsRefused, LeavesTreesOf, Outside, Ran, held_tree, inputs_of}
-use Rattle.treesync.specs.Messages.{finding_status, failure_status}
+use Rattle.treesync.specs.Jobs.{AppliesFile, IsSetHeld, InputsCounted, IsAnswer, IsRefused, LeavesTreesOf, Outside, Ran, held_tree, inputs_of}
+use Rattle.treesync.specs.Messages.{failure_status}
 use Rattle.treesync.specs.Outputs.{AsText, Output}
 use Rattle.treesync.specs.declared.input.TheConstants.{FILE_LIMIT}
 use Rattle.treesync.specs.declared.logs.TheConstants.{FULL_ALLOWANCE, MAX_COMMANDS}

@@ -1,14 +1,13 @@
 -- What applying a set to a tree owes, and what a job that is handed one owes.
-use Rattle.std.proofs.Common.{◌≡◌, ◌⊎◌, ◌+◌, ◌≤◌, ℕ, List, [], ◌∷◌, length, Option, Result, None, Some, Ok, Err, IsErrAnd, IsErrOf, IfOk, Vec, Global, true, false, inl, inr, refl, sym, ap, subst, ◌∙◌, arith}
-use Rattle.std.proofs.lemmas.Result.{err_from_is_err_and}
+use Rattle.std.proofs.Common.{◌≡◌, ◌⊎◌, ◌≤◌, ℕ, List, [], ◌∷◌, length, Option, Result, None, Some, Ok, Err, IsErrAnd, IfOk, Vec, Global, inl, inr, refl, sym, ap, subst, ◌∙◌, arith}
 use Rattle.std.specs.Prelude.{⊤}
-use Rattle.sync_port.specs.States.{IfBoth, next_number, unknown_but}
+use Rattle.sync_port.specs.States.{IfBoth, unknown_but}
 use Rattle.sync_port.specs.Ports.{FileContents, FilesState}
 use Rattle.sync_port.proofs.CallerLemmas.{both_more, counted_since}
 use Rattle.sync_command.specs.Changes.{Change}
 use Rattle.sync_command.specs.Maps.{Store, at}
 use Rattle.sync_command.specs.Trees.{after}
-use Rattle.tree_port.specs.States.{Counts, IfHeld, IfTreeKnown, IsCounted, NoneFell, NoneRefused, TreeState, WhereKnown}
+use Rattle.tree_port.specs.States.{IfHeld, IsCounted, NoneRefused, TreeState, WhereKnown}
 use Rattle.tree_port.specs.declared.faults.TreeFault.{TreeFault}
 use Rattle.tree_port.specs.declared.faults.TreeFault.TheVariants as tree
 use Rattle.resume_apply.specs.Faults.{of_tree}
@@ -19,9 +18,9 @@ use Rattle.resume_apply.specs.declared.faults.ApplyFault.{ApplyFault}
 use Rattle.resume_apply.specs.declared.faults.ApplyFault.TheVariants as fault
 use Rattle.tool_words.specs.Words.{Operand}
 use Rattle.tool_words.specs.declared.job.Job.TheVariants.{Apply}
-use Rattle.treesync.specs.Apply.{Applies, AppliesSet, IsApplied, IsAppliedWhereKnown, IsApply, IsBeforeChanges, IsRightOnTree, IsSetOf, IsStill, IsStopped, OfOnlyTree, TreeCounted, applied_text, apply_refusal}
-use Rattle.treesync.specs.Checks.{Answers, Causes, Check, FilesCounted, HasItems, IsAllowed, IsAllowedOf, IsOfJob, Then, Unless, seen}
-use Rattle.treesync.specs.Jobs.{AppliesFile, FindsFrom, Inputs, InputsCounted, IsRefused, IsSetHeld, LeavesTrees, NoTreeFell, held_tree}
+use Rattle.treesync.specs.Apply.{Applies, AppliesSet, IsApplied, IsAppliedWhereKnown, IsApply, IsBeforeChanges, IsRightOnTree, IsSetOf, OfOnlyTree, TreeCounted, applied_text, apply_refusal}
+use Rattle.treesync.specs.Checks.{Answers, Causes, Check, FilesCounted, HasItems, IsAllowed, IsAllowedOf, IsOfJob, Then, Unless}
+use Rattle.treesync.specs.Jobs.{AppliesFile, FindsFrom, Inputs, InputsCounted, IsRefused, IsSetHeld, NoTreeFell, held_tree}
 use Rattle.treesync.specs.declared.input.TheConstants.{FILE_LIMIT}
 use Rattle.treesync.specs.declared.refusal.Refusal.{Refusal}
 use Rattle.treesync.specs.declared.refusal.Refusal.TheVariants.{InvalidArguments, OutOfMemory, CallFailed, Found}

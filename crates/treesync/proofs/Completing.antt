@@ -1,9 +1,8 @@
 -- Where the files hold what a job asks for, the job has a text, and prints it.
-use Rattle.std.proofs.Common.{◌≡◌, ◌-◌, ◌≤◌, ◌<◌, ◌+◌, false, ℕ, zero, suc, List, [], ◌∷◌, length, map, Option, None, Some, Result, Ok, Err, inl, inr, refl, sym, ap, subst, ◌∙◌, arith, ◌⊎◌}
-use Rattle.std.specs.List.{slice_index_or, sum_by}
+use Rattle.std.proofs.Common.{◌≡◌, ◌-◌, ◌≤◌, ◌<◌, false, ℕ, zero, suc, List, [], ◌∷◌, length, Option, None, Some, Ok, Err, inl, inr, refl, sym, ap, subst, ◌∙◌, arith, ◌⊎◌}
 use Rattle.std.proofs.lemmas.List.Sums.{sum_by-cons}
 use Rattle.sync_command.specs.Changes.{Change}
-use Rattle.sync_command.specs.Maps.{Store, at, stored}
+use Rattle.sync_command.specs.Maps.{at, stored}
 use Rattle.sync_port.specs.States.{FaultCounted}
 use Rattle.sync_port.specs.Ports.{FileContents, Names}
 use Rattle.apply_model.specs.Entries.{rows_of, store_of}
@@ -11,13 +10,11 @@ use Rattle.canon_set.specs.Logs.{net}
 use Rattle.canon_set.specs.Sets.{canonical}
 use Rattle.log_text.specs.Logs.{log_text}
 use Rattle.log_text.specs.Snapshots.{snapshot_text}
-use Rattle.refluent.specs.CommonTrees.{AllChange, IsAmong, IsCommonTree}
-use Rattle.refluent.specs.Drawn.{drawn_commands}
+use Rattle.refluent.specs.CommonTrees.{AllChange, IsAmong}
 use Rattle.refluent.specs.FirstDisagreements.{log_at}
 use Rattle.refluent.specs.Joints.{net_sets}
 use Rattle.pref_list.specs.Orders.{first_fault}
 use Rattle.pref_list.specs.Ranking.{ranking}
-use Rattle.pref_list.specs.declared.rules.Rule.{Rule}
 use Rattle.merge_core.specs.Conflicts.{greedy_scan}
 use Rattle.merge_core.proofs.CallerLemmas.{greedy_law}
 use Rattle.transition.specs.Transitions.{transition}
@@ -28,19 +25,19 @@ use Rattle.tool_words.specs.LogCounts.{HasFewLogs}
 use Rattle.tool_words.specs.Trees.{job_folders}
 use Rattle.tool_words.specs.Words.{Operand, Text}
 use Rattle.tool_words.specs.declared.job.Job.{Job}
-use Rattle.tool_words.specs.declared.job.Job.TheVariants.{Help, Replay, Canon, Conflicts, Merge, Transition, Steer, Seal, Apply, Drill}
+use Rattle.tool_words.specs.declared.job.Job.TheVariants.{Help, Replay, Canon, Conflicts, Merge, Transition, Steer, Record, Seal, Apply, Drill}
 use Rattle.tool_words.proofs.CallerLemmas.{few_logs}
 use Rattle.treesync.specs.Canon.{IsCanon}
 use Rattle.treesync.specs.Checks.{Check, IsOne, Judged}
 use Rattle.treesync.specs.Completeness.{CompletesJob, HoldJoin, HoldReplay, HoldsTaken, IsMet, IsPrintedStatus}
 use Rattle.treesync.specs.Conflicts.{IsConflicts}
 use Rattle.treesync.specs.Drill.{IsDrill}
-use Rattle.treesync.specs.Headline.{HoldLogs, HoldTexts, Recorded, all_commands, latest_version, text_of}
-use Rattle.treesync.specs.Jobs.{IsAnswer, IsAnswerOf, Outside, Ran, held_tree}
+use Rattle.treesync.specs.Headline.{HoldLogs, HoldTexts, Recorded, all_commands, text_of}
+use Rattle.treesync.specs.Jobs.{IsAnswerOf, Outside, Ran, held_tree}
 use Rattle.treesync.specs.Joining.{IsJoined, commands_of, joint_version}
 use Rattle.treesync.specs.Logs.{IsLog, later_version}
 use Rattle.treesync.specs.Merge.{IsFirstMergerFor, IsMerge}
-use Rattle.treesync.specs.Outputs.{AsText, Output, WholeText, status_in}
+use Rattle.treesync.specs.Outputs.{AsText, Output, status_in}
 use Rattle.treesync.specs.Replay.{IsReplay}
 use Rattle.treesync.specs.Steer.{IsSteer}
 use Rattle.treesync.specs.Transition.{IsTransition, IsTransitionFor}
@@ -48,7 +45,7 @@ use Rattle.treesync.specs.declared.input.TheConstants.{FILE_LIMIT}
 use Rattle.treesync.specs.declared.logs.TheConstants.{FULL_ALLOWANCE, MAX_COMMANDS}
 use Rattle.treesync.specs.declared.refusal.Refusal.{Refusal}
 use Rattle.treesync.proofs.HeadlineLemmas.{completes_of, job_answer, joined_read, merge_right, no_calls, text_completes}
-use Rattle.treesync.proofs.HeldLogs.{all_change_held, log_read, logs_read, ok_is, ok_no_err, preferences_read, read_of, reads_of, same_commands, same_version, snapshot_read}
+use Rattle.treesync.proofs.HeldLogs.{all_change_held, log_read, logs_read, ok_is, ok_no_err, preferences_read, read_of, reads_of, same_commands, snapshot_read}
 use Rattle.treesync.proofs.OutputLemmas.{as_text, low_status}
 use Rattle.treesync.proofs.SteerHeadline.{right_rules}
 use Rattle.treesync.proofs.Unique.{canon_one, joined_one, logs_one, merge_one, replay_one, steer_one, transition_one}
@@ -185,6 +182,7 @@ module _ (words : List Text) (before now : Outside) (status : ℕ) (ran : Ran wo
   of_job (Merge prefs files) e few h = prints_text (Merge prefs files) (IsMerge prefs files) e refl (merge_one prefs files) (merge_right m.held prefs files h)
   of_job (Transition number prefs files) e few h = prints_text (Transition number prefs files) (IsTransition number prefs files) e refl (transition_one number prefs files) (transition_right m.held number prefs files h few.0.0 few.0.1)
   of_job (Steer file files) e few h = prints_text (Steer file files) (IsSteer file files) e refl (steer_one file files) (_, right_rules m.held file files h.set h.logs h.holds h.hold h.taken h.common h.is)
+  of_job (Record folder file) e few h = absurd h
   of_job (Seal folder file) e few h = absurd h
   of_job (Apply folder file) e few h = absurd h
   of_job (Drill seed logs steps) e few h = sums_up seed logs steps e
@@ -193,6 +191,7 @@ pub completes_job : (words : List Text) (before now : Outside) (status : ℕ) �
 completes_job words before now status ran alone job m e known met files_quiet out_quiet = by job e met
   where
     by : (job : Job) → job_of words ≡ Some job → IsMet job m.held → IsPrintedStatus job status ⊎ (status ≡ 16)
+    by (Record folder file) f h = absurd h
     by (Seal folder file) f h = absurd h
     by (Apply folder file) f h = absurd h
     by (Drill seed logs steps) f h = of_job words before now status ran (alone (Drill seed logs steps) f refl) m known files_quiet out_quiet (Drill seed logs steps) f (few_logs words (Drill seed logs steps) f) h

@@ -1,7 +1,6 @@
 -- What a printed list of clashes tells follows from what a run owes.
-use Rattle.std.proofs.Common.{◌≡◌, ◌⊎◌, ◌≤◌, false, ℕ, List, [], ◌∷◌, Option, Some, None, Result, Ok, Err, inl, inr, refl, sym, ap, subst, ◌∙◌, arith}
+use Rattle.std.proofs.Common.{◌≡◌, ◌≤◌, false, ℕ, List, [], ◌∷◌, Some, Ok, inl, inr, refl, sym, ap, subst, ◌∙◌, arith}
 use Rattle.sync_command.specs.declared.commands.Row.{Row}
-use Rattle.sync_port.specs.States.{FaultCounted}
 use Rattle.sync_port.specs.Ports.{FileContents, Names}
 use Rattle.refluent.specs.Clashes.{HasNoClash}
 use Rattle.refluent.specs.CommonTrees.{HasCommonTree}

@@ -1,12 +1,12 @@
 -- A drill has one summary, and one text.
-use Rattle.std.proofs.Common.{◌≡◌, ◌∙◌, ◌++◌, ℕ, zero, suc, List, [], ◌∷◌, length, inl, inr, refl, sym, ap, subst}
+use Rattle.std.proofs.Common.{◌≡◌, ◌∙◌, ◌++◌, ℕ, zero, suc, List, [], ◌∷◌, length, inl, inr, sym, ap, subst}
 use Rattle.sync_command.specs.Changes.{Change}
 use Rattle.sync_command.specs.Maps.{at, stored}
 use Rattle.sync_command.specs.Trees.{Holding, put}
 use Rattle.sync_command.proofs.CallerLemmas.{canonical_unique}
 use Rattle.apply_model.specs.Entries.{rows_of}
 use Rattle.refluent.specs.Drawn.{drawn_commands}
-use Rattle.refluent.specs.Joints.{Joined, StandsForAll}
+use Rattle.refluent.specs.Joints.{StandsForAll}
 use Rattle.pref_list.specs.Ranking.{ranking}
 use Rattle.pref_list.proofs.CallerLemmas.{drawn_ranked}
 use Rattle.merge_core.specs.FirstMergers.{IsFirstMerger}

@@ -1,5 +1,5 @@
 -- A file that is read piece by piece, as the check of its bytes.
-use Rattle.std.proofs.Common.{◌≡◌, ◌⊎◌, ◌+◌, ◌++◌, ◌<◌, ◌≤◌, ℕ, List, [], ◌∷◌, Bool, true, false, length, sum, nat_lt, if◌then◌else◌, None, Some, Ok, Err, Option, Result, inl, inr, refl, sym, ap, subst, ◌∙◌, arith, length-append, append-nil, take}
+use Rattle.std.proofs.Common.{◌≡◌, ◌⊎◌, ◌+◌, ◌++◌, ◌<◌, ◌≤◌, ℕ, List, [], ◌∷◌, Bool, true, false, length, nat_lt, if◌then◌else◌, None, Some, Ok, Err, Option, inl, inr, refl, sym, ap, subst, ◌∙◌, arith, length-append, append-nil, take}
 use Rattle.std.proofs.lemmas.Bool.Decides.{nat_tests}
 use Rattle.sync_port.specs.States.{IfBoth, IfKnown}
 use Rattle.sync_port.specs.Ports.{FileContents, FilesState, IsAbsentIn, OpenFaults, Opens, ReadFaults, Reads}
@@ -9,7 +9,6 @@ use Rattle.sync_port.specs.declared.faults.PortFault.TheVariants as port
 use Rattle.sync_port.proofs.CallerLemmas.{HasRead, both_more, both_then, counted_since, more_read}
 use Rattle.treesync.specs.Checks.{Answers, Causes, FilesCounted, IsAllowed, ReadsFiles}
 use Rattle.treesync.specs.Files.{IsFile, call_refusal, file_answer}
-use Rattle.treesync.specs.declared.refusal.Refusal.{Refusal}
 use Rattle.treesync.specs.declared.refusal.Refusal.TheVariants.{OutOfMemory, CallFailed, Found}
 use Rattle.treesync.specs.declared.refusal.Failure.TheVariants.{ReadFailed}
 use Rattle.treesync.specs.declared.refusal.Finding.TheVariants.{TooLarge}

@@ -1,16 +1,13 @@
 -- The headline of merging follows from what a run owes.
-use Rattle.std.proofs.Common.{◌≡◌, ◌⊎◌, ◌≤◌, ◌++◌, ◌+◌, ◌-◌, ◌<◌, ◌||◌, zero, suc, Bool, true, false, nat_lt, ℕ, List, [], ◌∷◌, map, length, Option, None, Some, Result, Ok, Err, inl, inr, refl, sym, ap, subst, ◌∙◌, arith, if◌then◌else◌}
-use Rattle.std.specs.List.{AllByRecursion, list_all, sum_by}
+use Rattle.std.proofs.Common.{◌≡◌, ◌⊎◌, ◌≤◌, ◌+◌, ◌<◌, ◌||◌, zero, suc, Bool, true, false, ℕ, List, [], ◌∷◌, length, Option, None, Some, Result, Ok, Err, inl, inr, refl, sym, ap, subst, ◌∙◌, arith, if◌then◌else◌}
 use Rattle.sync_command.specs.Changes.{Change, same_change}
 use Rattle.sync_command.specs.Maps.{Store, at}
-use Rattle.sync_command.specs.declared.values.Version.{Version}
-use Rattle.sync_port.specs.States.{FaultCounted, IfBoth, IfKnown}
-use Rattle.sync_port.specs.Ports.{FileContents, Names, SinkContents, SinkState}
+use Rattle.sync_port.specs.States.{FaultCounted}
+use Rattle.sync_port.specs.Ports.{FileContents, Names, SinkState}
 use Rattle.sync_port.proofs.CallerLemmas.{both_more}
-use Rattle.canon_set.specs.Logs.{all_change}
 use Rattle.canon_set.specs.Sets.{canonical}
-use Rattle.log_text.specs.Logs.{IsLog, log_text}
-use Rattle.refluent.specs.CommonTrees.{AllChange, HasCommonTree, IsAmong, IsCommonTree}
+use Rattle.log_text.specs.Logs.{log_text}
+use Rattle.refluent.specs.CommonTrees.{HasCommonTree, IsAmong}
 use Rattle.refluent.specs.Drawn.{drawn_commands, in_turn, nets_in_turn}
 use Rattle.refluent.specs.Joints.{net_sets}
 use Rattle.refluent.specs.Sets.{IsSubset, is_in}
@@ -23,45 +20,35 @@ use Rattle.std.specs.Prelude.{is_some}
 use Rattle.pref_list.specs.Orders.{fault_of, first_fault, first_fault_from, first_of, is_log}
 use Rattle.pref_list.specs.Picks.{first_with, log_of}
 use Rattle.pref_list.specs.declared.faults.RankFault.TheVariants.{NoCommand, NoSuchLog}
-use Rattle.pref_list.specs.Prefs.{IsPrefs, prefs_text}
 use Rattle.pref_list.specs.Ranking.{ranking, set_from}
 use Rattle.pref_list.specs.declared.rules.Rule.{Rule}
 use Rattle.pref_list.proofs.CallerLemmas.{drawn_ranked, in_turn-nets}
 use Rattle.merge_core.specs.Conflicts.{greedy_scan}
-use Rattle.merge_core.specs.FirstMergers.{IsFirstMerger}
 use Rattle.merge_core.specs.Steering.{at_rule, at_rules, steering_rules}
 use Rattle.merge_core.proofs.CallerLemmas.{greedy_law, one_first, steer_law}
 use Rattle.tool_words.specs.Jobs.{job_of}
 use Rattle.tool_words.specs.Words.{Operand, Text}
 use Rattle.tool_words.specs.declared.job.Job.{Job}
 use Rattle.tool_words.specs.declared.job.Job.TheVariants.{Merge}
-use Rattle.treesync.specs.Checks.{Causes, Check, IsAllowed, IsOne, IsRight, Judged, Next, Then}
-use Rattle.treesync.specs.Ends.{Printed, Prints}
-use Rattle.treesync.specs.Outputs.{AsText, Output, WholeText, status_in, text_in}
-use Rattle.treesync.specs.Files.{IsFile, file_answer, text_answer}
+use Rattle.treesync.specs.Checks.{Causes, Check, IsAllowed, IsOne}
+use Rattle.treesync.specs.Ends.{Prints}
+use Rattle.treesync.specs.Outputs.{AsText, Output, status_in, text_in}
 use Rattle.treesync.specs.Completeness.{HoldJoin}
-use Rattle.treesync.specs.Headline.{Completes, Gains, GainsMerger, HoldLogs, HoldTexts, HoldsRules, IsMergerOf, PrintsMerger, PrintsSteered, Recorded, all_commands, latest_version, text_of}
+use Rattle.treesync.specs.Headline.{Gains, HoldLogs, HoldsRules, IsMergerOf, PrintsMerger, PrintsSteered, Recorded, all_commands, latest_version}
 use Rattle.treesync.specs.Jobs.{InputsCounted, IsAnswer, IsAnswerOf, IsCountedByFirst, Outside, Ran, held_tree, inputs_of}
-use Rattle.treesync.specs.Joining.{AllTaken, AreTaken, EachTaken, IsJoined, IsLogs, commands_of, joint_version, left_after}
-use Rattle.treesync.specs.Logs.{IsLog as IsLogFrom, ReadLog, later_version, log_answer}
-use Rattle.treesync.specs.Merge.{IsFirstMergerFor, IsMerge, IsMergeOf, IsMerged, IsMergerText}
-use Rattle.treesync.specs.Messages.{finding_status, status_of}
-use Rattle.treesync.specs.Preferences.{ArePreferences, RulesHold, preference_word}
-use Rattle.treesync.specs.declared.input.TheConstants.{FILE_LIMIT}
-use Rattle.treesync.specs.declared.logs.Allowance.{Allowance}
+use Rattle.treesync.specs.Joining.{AreTaken, IsJoined, commands_of, joint_version}
+use Rattle.treesync.specs.Merge.{IsFirstMergerFor, IsMerge}
 use Rattle.treesync.specs.declared.logs.TheConstants.{FULL_ALLOWANCE}
-use Rattle.treesync.specs.declared.preferences.TheConstants.{PREFS_LIMIT}
 use Rattle.treesync.specs.declared.refusal.Refusal.{Refusal}
 use Rattle.treesync.specs.declared.refusal.Refusal.TheVariants.{InvalidArguments, OutOfMemory, CallFailed, Found}
 use Rattle.treesync.specs.declared.refusal.Failure.{Failure}
 use Rattle.treesync.specs.declared.refusal.Failure.TheVariants.{ReadFailed, TreeFailed, TreeDenied}
-use Rattle.treesync.specs.declared.refusal.Finding.TheVariants.{TooLarge}
 use Rattle.treesync.proofs.PrintedSizes.{merger_within}
 use Rattle.treesync.proofs.SameSets.{one_list}
 use Rattle.treesync.proofs.Unique.{merge_one}
 use Rattle.treesync.proofs.OutputLemmas.{Three, as_text, three, whole_status}
 use Rattle.treesync.proofs.Words.{failure_above, finding_above}
-use Rattle.treesync.proofs.HeldLogs.{all_change_held, held_logs, held_preferences, logs_read, ok_is, ok_no_err, one_recorded, one_rules, preferences_read, reads_of, same_commands, same_version}
+use Rattle.treesync.proofs.HeldLogs.{all_change_held, held_logs, held_preferences, logs_read, ok_no_err, one_recorded, one_rules, preferences_read, reads_of, same_commands, same_version}
 
 -- ---- logs that some tree takes together
 

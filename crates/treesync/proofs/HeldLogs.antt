@@ -1,6 +1,6 @@
 -- What the files of a job hold is what is read of them.
-use Rattle.std.proofs.Common.{◌≡◌, ◌⊎◌, ◌≤◌, ◌++◌, ◌-◌, ◌&&◌, Bool, true, false, nat_lt, ℕ, List, [], ◌∷◌, map, length, Option, None, Some, Result, Ok, Err, inl, inr, refl, sym, ap, subst, ◌∙◌, arith, if◌then◌else◌}
-use Rattle.std.specs.List.{AllByRecursion, list_all, sum_by}
+use Rattle.std.proofs.Common.{◌≡◌, ◌≤◌, ◌-◌, ◌&&◌, Bool, true, false, nat_lt, ℕ, List, [], ◌∷◌, map, length, Option, None, Some, Result, Ok, Err, inl, inr, refl, sym, ap, subst, ◌∙◌, arith, if◌then◌else◌}
+use Rattle.std.specs.List.{AllByRecursion, sum_by}
 use Rattle.std.proofs.lemmas.Bool.Decides.{nat_tests}
 use Rattle.std.proofs.lemmas.List.Sums.{sum_by-cons}
 use Rattle.sync_path.specs.Paths.{parts}
@@ -9,16 +9,15 @@ use Rattle.sync_command.specs.declared.commands.Row.{Row}
 use Rattle.sync_command.specs.declared.values.Version.{Version}
 use Rattle.sync_port.specs.Ports.{Names}
 use Rattle.canon_set.specs.Logs.{all_change}
-use Rattle.log_text.specs.Logs.{IsCommand, IsLog, log_of, log_text}
+use Rattle.log_text.specs.Logs.{IsCommand, IsLog, log_of}
 use Rattle.log_text.specs.Snapshots.{IsSnapshot, snapshot_text}
 use Rattle.log_text.specs.declared.faults.TextFault.{TextFault}
 use Rattle.log_text.proofs.CallerLemmas.{log_back, log_is, one_log, snapshot_back}
 use Rattle.refluent.specs.CommonTrees.{AllChange}
-use Rattle.pref_list.specs.Prefs.{IsPrefs, prefs_of, prefs_text}
+use Rattle.pref_list.specs.Prefs.{prefs_of, prefs_text}
 use Rattle.pref_list.specs.declared.rules.Rule.{Rule}
 use Rattle.pref_list.proofs.CallerLemmas.{one_prefs, prefs_back, prefs_is}
-use Rattle.tool_words.specs.Words.{Operand, Text}
-use Rattle.treesync.specs.Checks.{Check, Judged, Then}
+use Rattle.tool_words.specs.Words.{Operand}
 use Rattle.treesync.specs.Files.{IsFile, IsSnapshot as IsSnapshotFrom, file_answer, text_answer}
 use Rattle.treesync.specs.Headline.{HoldTexts, HoldsRules, Recorded, all_commands, latest_version, text_of}
 use Rattle.treesync.specs.Joining.{IsLogs, commands_of, joint_version, left_after}
@@ -26,12 +25,11 @@ use Rattle.treesync.specs.Logs.{IsLog as IsLogFrom, ReadLog, later_version, log_
 use Rattle.treesync.specs.Preferences.{ArePreferences}
 use Rattle.treesync.specs.declared.input.TheConstants.{FILE_LIMIT}
 use Rattle.treesync.specs.declared.logs.Allowance.{Allowance}
-use Rattle.treesync.specs.declared.logs.TheConstants.{FULL_ALLOWANCE}
 use Rattle.treesync.specs.declared.preferences.TheConstants.{PREFS_LIMIT}
 use Rattle.treesync.specs.declared.refusal.Refusal.{Refusal}
 use Rattle.treesync.specs.declared.refusal.Refusal.TheVariants.{Found}
 use Rattle.treesync.specs.declared.refusal.Finding.TheVariants.{TooLarge}
-use Rattle.treesync.proofs.FileReading.{if_less, if_not_less}
+use Rattle.treesync.proofs.FileReading.{if_not_less}
 
 -- ---- results
 

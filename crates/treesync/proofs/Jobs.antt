@@ -1,5 +1,5 @@
 -- The answers of `canon` and `replay`, check after check.
-use Rattle.std.proofs.Common.{◌≡◌, ◌++◌, ℕ, List, [], ◌∷◌, Option, None, Some, Result, Ok, Err, IsErrAnd, Vec, Global, refl, sym, ap, subst, ◌∙◌}
+use Rattle.std.proofs.Common.{◌≡◌, ℕ, List, [], ◌∷◌, Option, None, Some, Result, Ok, Err, IsErrAnd, Vec, Global, refl, sym, ap, subst, ◌∙◌}
 use Rattle.std.specs.List.{AllByRecursion}
 use Rattle.sync_command.specs.declared.commands.Row.{Row}
 use Rattle.sync_command.specs.declared.values.Version.{Version}
@@ -27,7 +27,7 @@ use Rattle.treesync.specs.declared.logs.LogFile.{LogFile}
 use Rattle.treesync.specs.declared.logs.TheConstants.{FULL_ALLOWANCE}
 use Rattle.treesync.specs.declared.refusal.Refusal.{Refusal}
 use Rattle.treesync.specs.declared.refusal.Refusal.TheVariants.{InvalidArguments, OutOfMemory, CallFailed, Found}
-use Rattle.treesync.specs.declared.refusal.Finding.TheVariants.{NoTree, NotTaken}
+use Rattle.treesync.specs.declared.refusal.Finding.TheVariants.{NoTree}
 use Rattle.treesync.proofs.CheckLemmas.{then_handed_on, then_judged, then_next, fewer_files}
 use Rattle.treesync.proofs.Labels.{after_printable, net_printable}
 

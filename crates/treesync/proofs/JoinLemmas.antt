@@ -1,11 +1,11 @@
 -- The logs of a job: what was read so far, and what was made of it.
-use Rattle.std.proofs.Common.{◌≡◌, ◌+◌, ◌-◌, ◌++◌, ◌<◌, ◌≤◌, ℕ, zero, suc, List, [], ◌∷◌, length, map, take, drop, get_or, sum, None, Some, Ok, Err, IsErrAnd, inl, inr, Vec, Global, refl, sym, ap, subst, ◌∙◌, arith, append_assoc, length-append, zero-add}
+use Rattle.std.proofs.Common.{◌≡◌, ◌+◌, ◌-◌, ◌++◌, ◌<◌, ◌≤◌, ℕ, zero, suc, List, [], ◌∷◌, length, take, drop, get_or, sum, None, Some, Ok, Err, IsErrAnd, inl, inr, Vec, Global, refl, sym, ap, subst, ◌∙◌, arith, append_assoc, zero-add}
 use Rattle.std.proofs.lemmas.Result.{err_from_is_err_and}
 use Rattle.std.proofs.lemmas.List.FromFn.{get_or-enumerate_from, length-enumerate_from}
 use Rattle.std.specs.declared.option.Option.{Option}
 use Rattle.std.specs.declared.result.Result.{Result}
 use Rattle.std.specs.Option.{option_map}
-use Rattle.std.specs.List.{enumerate_from, slice_get, AllByRecursion}
+use Rattle.std.specs.List.{enumerate_from, slice_get}
 use Rattle.sync_command.specs.Changes.{Change}
 use Rattle.sync_command.specs.declared.values.Version.{Version}
 use Rattle.sync_command.specs.declared.values.Version.TheVariants.{One, Two}
@@ -15,7 +15,7 @@ use Rattle.canon_set.specs.Logs.{IsBrokenAt, IsTaken}
 use Rattle.canon_set.specs.Sums.{Sum, StandsFor}
 use Rattle.refluent.specs.Joints.{EachStandsFor}
 use Rattle.tool_words.specs.Words.{Operand}
-use Rattle.treesync.specs.Checks.{Answers, Check, IsJudged, Judged, Next, ReadsFiles, Then}
+use Rattle.treesync.specs.Checks.{Answers, Check, IsJudged, Judged, Then}
 use Rattle.treesync.specs.Joining.{AllTaken, AreJoined, AreLogFiles, ArePrintable, IsJointOf, AreSumsOf, AreTaken, EachStands, EachTaken, IsFirstUntaken, IsJoined, IsLogs, commands_of, joint_version, left_after, log_limits}
 use Rattle.treesync.specs.Logs.{IsLog, IsLogFile, IsTotal, IsTotalOf, ReadLog, later_version}
 use Rattle.treesync.specs.declared.input.TheConstants.{FILE_LIMIT}
@@ -24,7 +24,7 @@ use Rattle.treesync.specs.declared.logs.Allowance.{Allowance}
 use Rattle.treesync.specs.declared.logs.LogFile.{LogFile}
 use Rattle.treesync.specs.declared.logs.Total.{Total}
 use Rattle.treesync.specs.declared.refusal.Refusal.{Refusal}
-use Rattle.treesync.specs.declared.refusal.Refusal.TheVariants.{InvalidArguments, OutOfMemory, CallFailed, Found}
+use Rattle.treesync.specs.declared.refusal.Refusal.TheVariants.{OutOfMemory, Found}
 use Rattle.treesync.specs.declared.refusal.Finding.TheVariants.{NoTree}
 use Rattle.treesync.proofs.CheckLemmas.{fewer_files, judged_alone, memory_alone, then_handed_on, then_judged, then_next, then_refused}
 

@@ -25,6 +25,8 @@ pub mod HeadlineLemmas
 pub mod TransitionHeadline
 pub mod SteerHeadline
 pub mod Completing
+pub mod Recordings
+pub mod Running
 pub mod ApplyHeadline
 pub mod ConflictHeadline
 pub mod Jobs

@@ -1,11 +1,9 @@
 -- A log that is read piece by piece: what was made of its commands, and the end of its text.
-use Rattle.std.proofs.Common.{◌≡◌, ◌+◌, ◌-◌, ◌++◌, ◌<◌, ◌≤◌, ℕ, List, [], ◌∷◌, length, take, None, Some, Ok, Err, Option, Result, OnOk, refl, sym, ap, subst, ◌∙◌, arith, length-append, unwrap_or}
+use Rattle.std.proofs.Common.{◌≡◌, ◌+◌, ◌-◌, ◌++◌, ◌<◌, ◌≤◌, ℕ, List, [], ◌∷◌, length, take, None, Some, Ok, Err, Option, Result, OnOk, sym, ap, subst, ◌∙◌, arith, length-append, unwrap_or}
 use Rattle.std.proofs.Math.Seq.{take-append_seam}
 use Rattle.std.proofs.lemmas.List.{take-append-le, take_all}
-use Rattle.std.specs.List.{AllByRecursion}
 use Rattle.sync_path.specs.Paths.{parts}
 use Rattle.sync_command.specs.Changes.{Change}
-use Rattle.sync_command.specs.declared.values.Version.{Version}
 use Rattle.sync_command.specs.declared.values.Version.TheVariants.{One}
 use Rattle.canon_set.specs.Logs.{IsBrokenAt, IsTaken}
 use Rattle.canon_set.specs.Sums.{Sum, StandsFor}
@@ -13,13 +11,13 @@ use Rattle.log_text.specs.declared.faults.LogFault.{LogFault}
 use Rattle.log_text.specs.declared.faults.LogFault.TheVariants as fault
 use Rattle.log_text.specs.declared.faults.TextFault.{TextFault}
 use Rattle.log_text.specs.declared.reader.LogReader.{LogReader}
-use Rattle.log_text.specs.Logs.{IsOfVersion, log_of}
+use Rattle.log_text.specs.Logs.{log_of}
 use Rattle.log_text.specs.LogPieces.{EndsLog, FeedsLog, HasRead, version_in, waiting_of}
 use Rattle.log_text.specs.Reading.{FailsText}
 use Rattle.log_text.proofs.CallerLemmas.{IsWholeLog, ended_log, log_of_version}
 use Rattle.treesync.specs.Checks.{IsJudged}
 use Rattle.treesync.specs.Files.{text_refusal}
-use Rattle.treesync.specs.Logs.{HoldsLog, IsFed, IsLogFile, IsTotalOf, ReadLog, log_answer}
+use Rattle.treesync.specs.Logs.{HoldsLog, IsFed, IsLogFile, IsTotalOf, log_answer}
 use Rattle.treesync.specs.declared.logs.LogFile.{LogFile}
 use Rattle.treesync.specs.declared.refusal.Refusal.{Refusal}
 use Rattle.treesync.specs.declared.refusal.Refusal.TheVariants.{Found}

@@ -1,8 +1,7 @@
 -- The text of a merger: its commands can be printed, and it is in the admissible order.
-use Rattle.std.proofs.Common.{◌≡◌, ◌++◌, ◌||◌, Bool, true, false, ℕ, List, [], ◌∷◌, Option, None, Some, Result, Ok, Err, Vec, Global, refl, sym, ap, subst, ◌∙◌}
+use Rattle.std.proofs.Common.{◌≡◌, ◌++◌, ◌||◌, Bool, true, false, ℕ, List, [], ◌∷◌, Ok, Vec, Global, refl, sym, ap, subst, ◌∙◌}
 use Rattle.std.specs.List.{AllByRecursion}
 use Rattle.sync_command.specs.Changes.{Change, is_canonical, same_change}
-use Rattle.sync_command.specs.Maps.{Store, at}
 use Rattle.sync_command.specs.Trees.{one_each}
 use Rattle.sync_command.specs.declared.values.Version.{Version}
 use Rattle.sync_command.proofs.CallerLemmas.{canonical_unique}
@@ -10,9 +9,7 @@ use Rattle.canon_set.specs.Logs.{net}
 use Rattle.canon_set.specs.Sets.{canonical}
 use Rattle.canon_set.proofs.CallerLemmas.{command_at-canonical, is_canonical-canonical, one_each-canonical}
 use Rattle.log_text.specs.Logs.{IsOfVersion, log_text}
-use Rattle.refluent.specs.CommonTrees.{HasCommonTree, IsCommonTree}
 use Rattle.refluent.specs.Drawn.{drawn_commands, nets_in_turn}
-use Rattle.refluent.specs.Joints.{Joined, StandsForAll}
 use Rattle.refluent.specs.Sets.{IsSubset, is_in}
 use Rattle.refluent.proofs.CallerLemmas.{is_in-without_repeats, same_change_is, same_change_refl}
 use Rattle.pref_list.specs.declared.rules.Rule.{Rule}

@@ -1,8 +1,8 @@
 -- There is one verdict on a set.
-use Rattle.std.proofs.Common.{◌≡◌, ◌⊎◌, ◌<◌, ℕ, zero, suc, Bool, true, false, not, ◌||◌, List, [], ◌∷◌, Option, None, Some, inl, inr, refl, sym, ap, subst, ◌∙◌, arith}
+use Rattle.std.proofs.Common.{◌≡◌, ◌⊎◌, ◌<◌, ℕ, zero, suc, Bool, true, false, not, ◌||◌, List, [], ◌∷◌, Option, Some, inl, inr, refl, sym, ap, subst, ◌∙◌, arith}
 use Rattle.std.specs.Prelude.{find}
 use Rattle.std.specs.List.{slice_get}
-use Rattle.sync_path.specs.Paths.{Node, comes_before, parent, same_path}
+use Rattle.sync_path.specs.Paths.{Node, comes_before, same_path}
 use Rattle.sync_path.proofs.CallerLemmas.{before_total, same_path_is}
 use Rattle.sync_command.specs.Changes.{Change, same_change}
 use Rattle.sync_command.specs.Maps.{Store, at}

@@ -1,13 +1,13 @@
 -- Outputs: what stands for them, and how they are printed.
-use Rattle.std.proofs.Common.{◌≡◌, ◌⊎◌, ◌≤◌, false, ℕ, List, [], ◌∷◌, length, Option, None, Some, Result, Ok, Err, Vec, Global, inl, inr, refl, sym, ap, subst, ◌∙◌, arith}
+use Rattle.std.proofs.Common.{◌≡◌, ◌⊎◌, ◌≤◌, false, ℕ, List, [], ◌∷◌, Option, None, Some, Result, Ok, Err, Vec, Global, inl, inr, refl, sym, subst, arith}
 use Rattle.refluent.specs.Joints.{Joined}
 use Rattle.sync_port.specs.States.{FaultCounted}
 use Rattle.sync_port.specs.Ports.{FileContents, FilesState, Names, SinkState}
-use Rattle.treesync.specs.Answering.{StandsForOutput, of_joint, of_text, output_of}
+use Rattle.treesync.specs.Answering.{StandsForOutput, of_joint, of_text}
 use Rattle.treesync.specs.Checks.{Answers, Causes, Check, FilesCounted, HasItems, IsAllowed, IsJudged, Judged}
 use Rattle.treesync.specs.Conflicts.{ShowsClashes}
-use Rattle.treesync.specs.Ends.{EndsWith, Prints}
-use Rattle.treesync.specs.Outputs.{AsText, ClashLines, Output, WholeText, status_in, text_in}
+use Rattle.treesync.specs.Ends.{EndsWith}
+use Rattle.treesync.specs.Outputs.{AsText, ClashLines, Output, WholeText, status_in}
 use Rattle.treesync.specs.declared.answer.Answer.{Answer}
 use Rattle.treesync.specs.declared.refusal.Refusal.{Refusal}
 use Rattle.treesync.proofs.CheckLemmas.{alike_refused, judged_alone, then_refused}

@@ -13,7 +13,7 @@ use Rattle.refluent.specs.Sets.{IsSubset}
 use Rattle.transition.specs.Limits.{IsWithinLogs}
 use Rattle.transition.specs.Transitions.{transition}
 use Rattle.transition.proofs.CallerLemmas.{canonical_within, commands_within, drawn_within, numbered_within, text_within_limit}
-use Rattle.treesync.specs.Headline.{HoldLogs, IsWithinLimits, Recorded, all_commands, text_of}
+use Rattle.treesync.specs.Headline.{IsWithinLimits, Recorded, all_commands, text_of}
 use Rattle.treesync.specs.declared.input.TheConstants.{FILE_LIMIT}
 use Rattle.treesync.specs.declared.logs.TheConstants.{MAX_COMMANDS}
 

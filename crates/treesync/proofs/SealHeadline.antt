@@ -1,26 +1,23 @@
 -- The headline of sealing follows from what a run owes.
-use Rattle.std.proofs.Common.{◌≡◌, ◌∙◌, ◌⊎◌, ◌≤◌, Bool, true, false, ℕ, List, [], ◌∷◌, length, Option, None, Some, Result, Ok, Err, inl, inr, refl, sym, ap, subst, arith}
-use Rattle.sync_command.specs.declared.values.Version.{Version}
+use Rattle.std.proofs.Common.{◌≡◌, ◌∙◌, ◌⊎◌, false, ℕ, List, [], ◌∷◌, Some, Result, Ok, Err, inl, inr, sym, ap, subst}
 use Rattle.sync_command.specs.Changes.{Change}
 use Rattle.sync_command.specs.Maps.{Store, at}
-use Rattle.sync_port.specs.Ports.{FileContents, Names}
-use Rattle.sync_port.specs.States.{FaultCounted}
+use Rattle.sync_port.specs.Ports.{FileContents}
 use Rattle.log_text.specs.Logs.{log_text}
 use Rattle.tree_port.specs.States.{TreeState}
 use Rattle.canon_set.specs.Logs.{IsBrokenAt}
-use Rattle.record_core.specs.Seals.{Diverges, FailsText, IsLogOf, IsSealed, OpenLog, SealsText}
+use Rattle.record_core.specs.Seals.{Diverges, FailsText, IsSealed, OpenLog}
 use Rattle.record_core.specs.declared.faults.SealFault.{SealFault}
 use Rattle.record_core.specs.declared.faults.SealFault.TheVariants as fault
 use Rattle.record_core.proofs.CallerLemmas.{not_both}
 use Rattle.tool_words.specs.Jobs.{job_of}
 use Rattle.tool_words.specs.Words.{Operand, Text}
 use Rattle.tool_words.specs.declared.job.Job.TheVariants.{Seal}
-use Rattle.treesync.specs.Checks.{Check}
-use Rattle.treesync.specs.Files.{IsFile, file_answer}
+use Rattle.treesync.specs.Files.{file_answer}
 use Rattle.treesync.specs.Headline.{CompletesOnTree, Gains, HoldsOpen, PrintsSealed, SealsHeld}
 use Rattle.treesync.specs.Jobs.{InputsCounted, IsAnswer, LeavesTreesOf, Outside, Ran, held_tree, inputs_of}
 use Rattle.treesync.specs.Outputs.{AsText, Output, status_in}
-use Rattle.treesync.specs.Seal.{IsFinding, IsSeal, IsSealing, LooksAt, LooksAtOnly}
+use Rattle.treesync.specs.Seal.{IsFinding, IsSeal, IsSealing, LooksAtOnly}
 use Rattle.treesync.specs.declared.input.TheConstants.{FILE_LIMIT}
 use Rattle.treesync.specs.declared.refusal.Refusal.{Refusal}
 use Rattle.treesync.specs.declared.refusal.Failure.{Failure}

@@ -1,5 +1,5 @@
 -- Sealing a text over a tree that is known has one answer.
-use Rattle.std.proofs.Common.{◌≡◌, ◌∙◌, Bool, true, false, ℕ, List, Option, None, Some, Result, Ok, Err, refl, sym, ap, subst}
+use Rattle.std.proofs.Common.{◌≡◌, ◌∙◌, Bool, true, false, ℕ, List, Some, Result, Ok, Err, refl, sym, ap, subst}
 use Rattle.std.specs.Prelude.{IsErr, MatchBool}
 use Rattle.sync_path.specs.Paths.{Node, comes_before, parts, same_path}
 use Rattle.sync_path.proofs.CallerLemmas.{before_total, same_path_is}
@@ -8,7 +8,6 @@ use Rattle.sync_command.specs.Changes.{Change}
 use Rattle.sync_command.specs.Maps.{Store, at}
 use Rattle.sync_command.specs.Trees.{Holding}
 use Rattle.log_text.specs.declared.faults.TextFault.{TextFault}
-use Rattle.log_text.specs.LogPieces.{IsShownLog}
 use Rattle.log_text.specs.Logs.{log_of, log_text}
 use Rattle.log_text.specs.OpenLogs.{ended_part}
 use Rattle.canon_set.specs.Logs.{IsBrokenAt}

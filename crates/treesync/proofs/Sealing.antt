@@ -1,12 +1,11 @@
 -- What sealing a log over a tree owes, and what a job that is handed one owes.
-use Rattle.std.proofs.Common.{◌≡◌, ◌⊎◌, ◌≤◌, ℕ, List, [], ◌∷◌, length, Option, Result, None, Some, Ok, Err, IsErrAnd, Vec, Global, Bool, true, false, inl, inr, refl, sym, subst, arith}
-use Rattle.std.specs.Prelude.{⊤}
+use Rattle.std.proofs.Common.{◌≡◌, ◌⊎◌, ℕ, List, [], ◌∷◌, Option, Result, None, Some, Ok, Err, IsErrAnd, Vec, Global, Bool, inl, inr, refl, sym, subst}
 use Rattle.sync_port.specs.Ports.{FileContents, FilesState}
 use Rattle.sync_command.specs.declared.values.Version.{Version}
 use Rattle.sync_command.specs.Changes.{Change}
 use Rattle.sync_command.specs.Maps.{Store}
 use Rattle.log_text.specs.Logs.{log_text}
-use Rattle.tree_port.specs.States.{IfHeld, NoneFell, NoneRefused, TreeState}
+use Rattle.tree_port.specs.States.{NoneRefused, TreeState}
 use Rattle.record_core.specs.Seals.{FailsText, LooksOnly, SealsText}
 use Rattle.record_core.specs.declared.faults.SealFault.{SealFault}
 use Rattle.record_core.specs.declared.faults.SealFault.TheVariants as fault

@@ -1,7 +1,7 @@
 -- Texts that are sent one after another.
 use Rattle.std.proofs.Common.{◌≡◌, ◌≤◌, ◌+◌, ◌++◌, ℕ, List, [], ◌∷◌, take, length, None, Some, Ok, Err, Result, refl, sym, ap, ◌∙◌, arith, append_assoc, zero, suc, map, Option, append-nil, suc-add}
 use Rattle.std.proofs.Math.Seq.{take-length}
-use Rattle.std.proofs.Common.{String, Global, string_bytes, get_or, ◌<◌, Bor, subst, OnErr}
+use Rattle.std.proofs.Common.{get_or, ◌<◌, Bor, subst, OnErr}
 use Rattle.std.specs.List.{concat}
 use Rattle.std.specs.declared.option.Option.{Option}
 use Rattle.sync_port.specs.States.{FaultCounted, IfBoth, IfKnown}

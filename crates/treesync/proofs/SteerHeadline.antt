@@ -1,16 +1,13 @@
 -- What a `steer` prints follows from what a run owes.
-use Rattle.std.proofs.Common.{◌≡◌, ◌≤◌, ◌+◌, false, ℕ, List, [], ◌∷◌, length, Some, Ok, inl, inr, refl, sym, ap, subst, ◌∙◌, arith}
-use Rattle.std.specs.List.{sum_by}
+use Rattle.std.proofs.Common.{◌≡◌, ◌≤◌, false, ℕ, List, [], ◌∷◌, length, Some, Ok, inl, inr, refl, sym, ap, subst, ◌∙◌, arith}
 use Rattle.std.proofs.lemmas.List.Sums.{sum_by-cons}
-use Rattle.sync_command.specs.Changes.{Change}
-use Rattle.sync_port.specs.Ports.{FileContents, Names}
+use Rattle.sync_port.specs.Ports.{Names}
 use Rattle.canon_set.specs.Logs.{IsTaken, net}
 use Rattle.canon_set.specs.Sets.{canonical}
 use Rattle.pref_list.specs.Prefs.{prefs_text}
 use Rattle.log_text.specs.Logs.{IsLog}
 use Rattle.refluent.specs.CommonTrees.{HasCommonTree}
 use Rattle.merge_core.specs.Steering.{steering_rules}
-use Rattle.tool_words.specs.Jobs.{job_of}
 use Rattle.tool_words.specs.Words.{Operand, Text}
 use Rattle.tool_words.specs.declared.job.Job.TheVariants.{Steer}
 use Rattle.treesync.specs.Headline.{Gains, HoldLogs, IsMergerOf, PrintsRules, Recorded, all_commands, text_of}

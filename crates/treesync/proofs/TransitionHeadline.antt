@@ -1,16 +1,16 @@
 -- Where a printed transition leads follows from what a run owes.
-use Rattle.std.proofs.Common.{◌≡◌, ◌-◌, true, false, ℕ, zero, suc, List, [], ◌∷◌, Option, Some, Result, Ok, Err, inl, inr, refl, sym, ap, subst, ◌∙◌}
+use Rattle.std.proofs.Common.{◌≡◌, ◌-◌, true, false, ℕ, zero, suc, List, [], ◌∷◌, Option, Ok, inl, inr, refl, sym, ap, subst, ◌∙◌}
 use mathlib.Core.Path.{fun_ext}
 use Rattle.sync_command.specs.Changes.{Change}
 use Rattle.sync_command.specs.Maps.{Store, IsTreeMap, at, stored}
 use Rattle.sync_command.specs.Trees.{Fits, Holding, Takes, after, new_or, one_each}
 use Rattle.sync_command.proofs.CallerLemmas.{same_fits}
-use Rattle.sync_port.specs.Ports.{FileContents, Names}
+use Rattle.sync_port.specs.Ports.{Names}
 use Rattle.canon_set.specs.Logs.{net}
 use Rattle.canon_set.specs.Sets.{canonical}
 use Rattle.canon_set.proofs.CallerLemmas.{command_at-canonical, net_law, one_each-canonical}
 use Rattle.log_text.specs.Logs.{log_text}
-use Rattle.refluent.specs.CommonTrees.{HasCommonTree, IsAmong, IsCommonTree}
+use Rattle.refluent.specs.CommonTrees.{HasCommonTree, IsAmong}
 use Rattle.refluent.specs.Drawn.{drawn_commands}
 use Rattle.refluent.specs.FirstDisagreements.{log_at}
 use Rattle.pref_list.specs.Ranking.{ranking}
@@ -19,11 +19,10 @@ use Rattle.pref_list.proofs.CallerLemmas.{drawn_ranked}
 use Rattle.merge_core.proofs.CallerLemmas.{one_first}
 use Rattle.transition.specs.Transitions.{transition}
 use Rattle.transition.proofs.CallerLemmas.{canonical_merger, one_each-transition, transition_fits}
-use Rattle.tool_words.specs.Jobs.{job_of}
 use Rattle.tool_words.specs.Words.{Operand, Text}
 use Rattle.tool_words.specs.declared.job.Job.TheVariants.{Transition}
 use Rattle.treesync.specs.Headline.{Gains, HoldLogs, HoldsRules, LeadsToMerger, PrintsTransition, Recorded, all_commands, latest_version}
-use Rattle.treesync.specs.Jobs.{InputsCounted, IsAnswer, Outside, Ran, held_tree, inputs_of}
+use Rattle.treesync.specs.Jobs.{Outside, Ran}
 use Rattle.treesync.specs.Joining.{commands_of, joint_version}
 use Rattle.treesync.specs.Merge.{IsFirstMergerFor}
 use Rattle.treesync.specs.Transition.{IsTransition, IsTransitionFor}

@@ -1,19 +1,16 @@
 -- The text of a transition: its commands can be printed.
-use Rattle.std.proofs.Common.{◌≡◌, ◌<◌, ◌≤◌, true, ℕ, zero, suc, ◌-◌, List, [], ◌∷◌, length, map, Some, Result, Ok, Err, Vec, Global, refl, sym, ap, subst, ◌∙◌, arith, ◌⊎◌, inl, inr}
+use Rattle.std.proofs.Common.{◌≡◌, ◌<◌, ◌≤◌, true, ℕ, zero, suc, ◌-◌, List, [], ◌∷◌, length, Result, Ok, Err, Vec, Global, refl, sym, ap, subst, ◌∙◌, arith, inl, inr}
 use Rattle.std.specs.List.{AllByRecursion}
 use Rattle.std.proofs.lemmas.List.{length-map}
 use Rattle.sync_command.specs.Values.{is_of_version}
-use Rattle.sync_command.specs.Changes.{Change, is_canonical}
+use Rattle.sync_command.specs.Changes.{Change}
 use Rattle.sync_command.specs.Maps.{Store, at}
-use Rattle.sync_command.specs.declared.values.Version.{Version}
 use Rattle.canon_set.specs.Logs.{net}
 use Rattle.canon_set.specs.Sets.{canonical}
-use Rattle.canon_set.proofs.CallerLemmas.{is_canonical-canonical}
 use Rattle.log_text.specs.Logs.{IsOfVersion, log_text}
-use Rattle.refluent.specs.CommonTrees.{IsAmong, IsCommonTree}
+use Rattle.refluent.specs.CommonTrees.{IsAmong}
 use Rattle.refluent.specs.Drawn.{drawn_commands, drawn_of, nets_in_turn}
 use Rattle.refluent.specs.FirstDisagreements.{log_at}
-use Rattle.refluent.specs.Joints.{Joined, StandsForAll, net_sets}
 use Rattle.refluent.specs.Sets.{IsSubset, is_in}
 use Rattle.refluent.proofs.CallerLemmas.{IsCommon, common_holding, drawn_is, is_in-canonical, is_in-without_repeats, net_in}
 use Rattle.pref_list.specs.declared.rules.Rule.{Rule}
@@ -21,10 +18,9 @@ use Rattle.merge_core.specs.FirstMergers.{IsFirstMergerOf}
 use Rattle.transition.specs.Transitions.{FitsCommonTrees, IsMadeOfNets, IsNetCommand, transition}
 use Rattle.transition.specs.Transitions as transitions
 use Rattle.transition.proofs.CallerLemmas.{made_of_nets, one_each-transition}
-use Rattle.treesync.specs.Checks.{HasItems, IsJudged, Next}
-use Rattle.treesync.specs.Joining.{AreJoined, AreLogFiles, ArePrintable, EachStands, IsJoined, commands_of, joint_version}
+use Rattle.treesync.specs.Checks.{HasItems, IsJudged}
+use Rattle.treesync.specs.Joining.{AreJoined, EachStands, IsJoined, commands_of, joint_version}
 use Rattle.treesync.specs.Logs.{IsLogFile, IsTotal, ReadLog}
-use Rattle.treesync.specs.Merge.{IsFirstMergerFor}
 use Rattle.treesync.specs.Transition.{IsTransitionFor, IsTransitionText}
 use Rattle.treesync.specs.declared.joining.JoinedLogs.{JoinedLogs}
 use Rattle.treesync.specs.declared.logs.LogFile.{LogFile}

@@ -1,5 +1,5 @@
 -- What the words and the held bytes determine is one answer: each check has at most one, and so have two checks one after another.
-use Rattle.std.proofs.Common.{◌≡◌, ◌⊎◌, Bool, ℕ, zero, suc, true, false, ◌-◌, ◌<◌, ◌≤◌, List, [], ◌∷◌, length, take, slice_get, Option, Some, None, Result, Ok, Err, inl, inr, refl, sym, ap, subst, ◌∙◌, arith, take-take}
+use Rattle.std.proofs.Common.{◌≡◌, ◌⊎◌, Bool, ℕ, zero, suc, true, false, ◌-◌, ◌<◌, ◌≤◌, List, [], ◌∷◌, length, take, slice_get, Option, Some, None, Result, Ok, Err, inl, inr, refl, sym, ap, subst, ◌∙◌, arith}
 use Rattle.std.proofs.lemmas.Bool.Decides.{nat_tests}
 use Rattle.sync_command.specs.declared.commands.Row.{Row}
 use Rattle.sync_command.specs.Changes.{Change}
@@ -9,15 +9,13 @@ use Rattle.apply_model.specs.Entries.{store_of}
 use Rattle.apply_model.specs.Replays.{IsRefused}
 use Rattle.sync_path.specs.Paths.{Node, comes_before, parts, same_path}
 use Rattle.sync_path.proofs.CallerLemmas.{before_total, both, same_path_is, same_path_refl}
-use Rattle.sync_command.proofs.CallerLemmas.{canonical_unique, command_at-node}
 use Rattle.canon_set.specs.Sets.{canonical}
-use Rattle.canon_set.proofs.CallerLemmas.{command_at-canonical, is_canonical-canonical, net_fits, one_each-canonical}
+use Rattle.canon_set.proofs.CallerLemmas.{net_fits, one_each-canonical}
 use Rattle.log_text.specs.Logs.{log_of, log_text}
 use Rattle.refluent.specs.CommonTrees.{AllChange, HasCommonTree}
 use Rattle.refluent.specs.Drawn.{drawn_commands}
 use Rattle.refluent.specs.FirstDisagreements.{IsFirstDisagreement, log_at, pair_before}
-use Rattle.refluent.specs.Sets.{HaveSameCommands, IsSubset}
-use Rattle.refluent.proofs.CallerLemmas.{at_from_in, in_from_at}
+use Rattle.refluent.specs.Sets.{HaveSameCommands}
 use Rattle.pref_list.specs.Prefs.{prefs_of}
 use Rattle.pref_list.specs.Ranking.{ranking}
 use Rattle.pref_list.specs.declared.rules.Rule.{Rule}
@@ -29,9 +27,9 @@ use Rattle.merge_core.proofs.CallerLemmas.{one_first}
 use Rattle.tool_words.specs.Words.{Operand}
 use Rattle.sync_command.specs.declared.values.Version.{Version}
 use Rattle.log_text.specs.Snapshots.{snapshot_of}
-use Rattle.canon_set.specs.Logs.{IsBrokenAt, IsTaken, net}
+use Rattle.canon_set.specs.Logs.{IsTaken, net}
 use Rattle.tool_words.specs.declared.job.Job.{Job}
-use Rattle.tool_words.specs.declared.job.Job.TheVariants.{Help, Replay, Canon, Conflicts, Merge, Transition, Steer, Seal, Apply, Drill}
+use Rattle.tool_words.specs.declared.job.Job.TheVariants.{Help, Replay, Canon, Conflicts, Merge, Transition, Steer, Record, Seal, Apply, Drill}
 use Rattle.tool_words.specs.Jobs.{job_of}
 use Rattle.sync_port.specs.Ports.{Names}
 use Rattle.treesync.specs.Checks.{Check, IsOne, Judged, Next, Then}
@@ -51,6 +49,8 @@ use Rattle.treesync.specs.Preferences.{ArePreferences, RulesHold, preference_wor
 use Rattle.treesync.specs.Transition.{IsTransition, IsTransitionOf, IsTransitioned, IsTransitionText}
 use Rattle.transition.proofs.CallerLemmas.{canonical_merger}
 use Rattle.treesync.specs.Drill.{IsDrill, IsDrillOf}
+use Rattle.record_core.specs.Scripts.{script_of}
+use Rattle.treesync.specs.Record.{IsRecord, IsRecordedText, IsScript}
 use Rattle.treesync.specs.Seal.{IsSeal, IsSealedOver}
 use Rattle.treesync.specs.Steer.{IsNetSet, IsSteer, IsSteered, IsSteering, RefusesBy}
 use Rattle.treesync.proofs.HeldLogs.{all_change_held, held_logs, same_commands}
@@ -478,6 +478,14 @@ drill_of_one seed logs steps (Err r) other p q = absurd p
 drill_one : (seed logs steps : ℕ) → IsOne (IsDrill seed logs steps)
 drill_one seed logs steps = judged_one (IsDrillOf seed logs steps) (drill_of_one seed logs steps)
 
+-- ---- a recording
+
+script_one : (file : Operand) → IsOne (IsScript file)
+script_one file = then_one (IsFile FILE_LIMIT file.place file.text) (λ bytes. Judged (λ answer. answer ≡ text_answer file.place (script_of (parts 10 bytes)))) (file_one FILE_LIMIT file.place file.text) (λ bytes. named_one _)
+
+record_one : (file : Operand) (tree : Store) → IsOne (IsRecord file (Some tree))
+record_one file tree = then_one (IsScript file) (λ script. Judged (IsRecordedText file.place (Some tree) script)) (script_one file) (λ script. named_one _)
+
 -- ---- the answer of words
 
 pub text_one : (P : Check (List ℕ)) → IsOne P → IsOne (AsText P)
@@ -492,6 +500,7 @@ job_one (Conflicts logs) tree = conflicts_one logs
 job_one (Merge prefs logs) tree = text_one (IsMerge prefs logs) (merge_one prefs logs)
 job_one (Transition number prefs logs) tree = text_one (IsTransition number prefs logs) (transition_one number prefs logs)
 job_one (Steer set logs) tree = text_one (IsSteer set logs) (steer_one set logs)
+job_one (Record folder script) tree = text_one (IsRecord script (Some tree)) (record_one script tree)
 job_one (Seal folder log) tree = text_one (IsSeal folder log (Some tree)) (seal_one folder log tree)
 job_one (Apply folder set) tree = text_one (IsApply folder set (Some tree)) (apply_one folder set tree)
 job_one (Drill seed logs steps) tree = text_one (IsDrill seed logs steps) (drill_one seed logs steps)

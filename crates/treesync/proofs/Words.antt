@@ -1,21 +1,22 @@
 -- What finding the answer of words owes, and how a run ends.
-use Rattle.std.proofs.Common.{◌≡◌, ◌⊎◌, ◌≤◌, ℕ, List, [], ◌∷◌, length, map, Option, Result, None, Some, Ok, Err, Vec, Global, inl, inr, refl, sym, ap, subst, ◌∙◌, arith}
+use Rattle.std.proofs.Common.{◌≡◌, ◌⊎◌, ◌≤◌, ℕ, List, [], ◌∷◌, length, Option, Result, None, Some, Ok, Err, Vec, Global, inl, inr, refl, sym, ap, subst, ◌∙◌, arith}
 use Rattle.sync_command.specs.Maps.{Store}
 use Rattle.sync_port.specs.States.{IfBoth}
 use Rattle.sync_port.specs.Ports.{FileContents, FilesState, SinkState}
 use Rattle.tool_words.specs.declared.job.Job.{Job}
-use Rattle.tool_words.specs.declared.job.Job.TheVariants.{Help, Replay, Canon, Conflicts, Merge, Transition, Steer, Seal, Apply, Drill}
+use Rattle.tool_words.specs.declared.job.Job.TheVariants.{Help, Replay, Canon, Conflicts, Merge, Transition, Steer, Record, Seal, Apply, Drill}
 use Rattle.treesync.specs.Answering.{StandsForOutput, of_text, output_of}
 use Rattle.treesync.specs.Checks.{Answers, Causes, Check, FilesCounted, HasItems, IsAllowed, IsAllowedOf, IsOfJob, ReadsFiles, Unless, seen}
 use Rattle.treesync.specs.Apply.{IsApply}
+use Rattle.treesync.specs.Runs.{IsAnswered}
 use Rattle.treesync.specs.Seal.{IsSeal}
 use Rattle.treesync.specs.Ends.{Prints}
-use Rattle.tree_port.specs.States.{NoneFell, TreeState}
+use Rattle.tree_port.specs.States.{TreeState}
 use Rattle.tool_words.specs.Jobs.{job_of}
 use Rattle.tool_words.specs.Trees.{asked_folders, folder_places, job_folders}
 use Rattle.tool_words.specs.Words.{Operand, Text, places_of}
 use Rattle.treesync.specs.Jobs.{Finds, FindsFrom, FindsJob, Inputs, InputsCounted, IsAnswerOf, IsJobAnswer, LeavesTrees, LeavesTreesOf, NoTreeFell, held_tree, limits_of, limits_of_words}
-use Rattle.treesync.specs.Messages.{failure_status, finding_status, status_of}
+use Rattle.treesync.specs.Messages.{failure_status, finding_status}
 use Rattle.treesync.specs.Outputs.{AsText, Output, WholeText, status_in}
 use Rattle.treesync.specs.declared.answer.Answer.{Answer}
 use Rattle.treesync.specs.declared.answer.Answer.TheVariants.{Text as TextAnswer}
@@ -53,6 +54,7 @@ no_job words state e = subst (λ w. FindsOutput w state state (Err InvalidArgume
 still_refused : (job : Job) (files : Option FileContents) (r : Refusal) (trees : List TreeState) → LeavesTrees {X = Answer} job files (Err r) trees trees
 still_refused (Apply folder file) files r trees = inl (refl, tt)
 still_refused (Seal folder file) files r trees = inl refl
+still_refused (Record folder file) files r trees = refl
 still_refused Help files r trees = refl
 still_refused (Replay snap log) files r trees = refl
 still_refused (Canon log) files r trees = refl
@@ -81,6 +83,7 @@ no_memory (Some job) state = memory_found job state
 stays : (job : Job) (files : Option FileContents) (found : Outcome) (trees : List TreeState) → job_folders job ≡ [] → LeavesTrees job files found trees trees
 stays (Apply folder file) files found trees empty = absurd (cc)
 stays (Seal folder file) files found trees empty = absurd (cc)
+stays (Record folder file) files found trees empty = absurd (cc)
 stays Help files found trees empty = refl
 stays (Replay snap log) files found trees empty = refl
 stays (Canon log) files found trees empty = refl
@@ -137,6 +140,7 @@ found_allowed (Some job) before now found f = seen_allowed (IsJobAnswer job (hel
 pub trees_alike : {X Y : Type 0} (job : Job) (files : Option FileContents) (found : Result X Refusal) (other : Result Y Refusal) (trees later : List TreeState) → IsAlike found other → LeavesTrees job files found trees later → LeavesTrees job files other trees later
 trees_alike (Apply folder file) files found other trees later same h = applied_alike file files found other trees later same h
 trees_alike (Seal folder file) files found other trees later same h = looked_alike found other trees later same h
+trees_alike (Record folder file) files found other trees later same h = h
 trees_alike Help files found other trees later same h = h
 trees_alike (Replay snap log) files found other trees later same h = h
 trees_alike (Canon log) files found other trees later same h = h
@@ -167,6 +171,7 @@ trees_later (Some (Apply folder file)) files answer trees later (inl h) = same_f
 trees_later (Some (Apply folder file)) files answer trees later (inr h) = applied_fell file files answer trees later h
 trees_later (Some (Seal folder file)) files answer trees later (inl h) = same_fell trees later h
 trees_later (Some (Seal folder file)) files answer trees later (inr h) = looked_fell answer trees later h
+trees_later (Some (Record folder file)) files answer trees later h = same_fell trees later h
 trees_later (Some Help) files answer trees later h = same_fell trees later h
 trees_later (Some (Replay snap log)) files answer trees later h = same_fell trees later h
 trees_later (Some (Canon log)) files answer trees later h = same_fell trees later h
@@ -297,39 +302,28 @@ no_trees_of words (tree ∷ trees) e job f empty =
     let count : length (folder_places words) ≡ 0 = ap (λ j. length (places_of (asked_folders j))) f ∙ ap (λ l. length (places_of l)) empty in
     absurd (omega (arith, e, count))
 
--- and one that seals or applies has one
-pub one_folder : (words : List Text) (job : Job) (folder file : Operand) → job_of words ≡ Some job → job ≡ Apply folder file → length (folder_places words) ≡ 1
-one_folder words job folder file e is = ap (λ j. length (places_of (asked_folders j))) (e ∙ ap Some is)
+-- a job that is no recording, and neither seals nor applies, names no folder
+pub no_folders : (job : Job) → IsAnswered job → ((folder file : Operand) → job ≡ Seal folder file → ⊥) → ((folder file : Operand) → job ≡ Apply folder file → ⊥) → job_folders job ≡ []
+no_folders (Record folder file) answered seal other = absurd answered
+no_folders (Seal folder file) answered seal other = absurd (seal folder file refl)
+no_folders (Apply folder file) answered seal other = absurd (other folder file refl)
+no_folders Help answered seal other = refl
+no_folders (Replay snap log) answered seal other = refl
+no_folders (Canon log) answered seal other = refl
+no_folders (Conflicts logs) answered seal other = refl
+no_folders (Merge prefs logs) answered seal other = refl
+no_folders (Transition number prefs logs) answered seal other = refl
+no_folders (Steer set logs) answered seal other = refl
+no_folders (Drill seed logs steps) answered seal other = refl
 
-pub sealed_folder : (words : List Text) (job : Job) (folder file : Operand) → job_of words ≡ Some job → job ≡ Seal folder file → length (folder_places words) ≡ 1
-sealed_folder words job folder file e is = ap (λ j. length (places_of (asked_folders j))) (e ∙ ap Some is)
-
--- a job that neither seals nor applies names no folder
-pub no_folders : (job : Job) → ((folder file : Operand) → job ≡ Seal folder file → ⊥) → ((folder file : Operand) → job ≡ Apply folder file → ⊥) → job_folders job ≡ []
-no_folders (Seal folder file) seal other = absurd (seal folder file refl)
-no_folders (Apply folder file) seal other = absurd (other folder file refl)
-no_folders Help seal other = refl
-no_folders (Replay snap log) seal other = refl
-no_folders (Canon log) seal other = refl
-no_folders (Conflicts logs) seal other = refl
-no_folders (Merge prefs logs) seal other = refl
-no_folders (Transition number prefs logs) seal other = refl
-no_folders (Steer set logs) seal other = refl
-no_folders (Drill seed logs steps) seal other = refl
-
--- the answer of the words, of a job that names no folder
-pub files_answer : (job : Job) (words : Option Job) (before now : FilesState) (trees : List TreeState) (found : Outcome) → words ≡ Some job → job_folders job ≡ [] →
-    Answers StandsForOutput (IsJobAnswer job (held_tree trees)) (limits_of job) before now found → FindsOutput words (record { files = before; trees = trees }) (record { files = now; trees = trees }) found
-files_answer job words before now trees found e empty a = found_job job words (record { files = before; trees = trees }) (record { files = now; trees = trees }) found e (files_found job before now trees found empty a)
-
--- and of an application
-pub found_apply : (folder file : Operand) (job : Job) (words : Option Job) (before now : Inputs) (found : Result (Vec ℕ Global) Refusal) (result : Outcome) → words ≡ Some job → job ≡ Apply folder file → result ≡ of_text found →
-    FindsFrom HasItems (IsApply folder file (held_tree before.trees)) (Apply folder file) before now found → FindsOutput words before now result
-found_apply folder file job words before now found result e is same f =
-    found_job (Apply folder file) words before now result (e ∙ ap Some is) (found_text_of (IsApply folder file (held_tree before.trees)) (Apply folder file) before now found result same f)
+-- the answer of an application
+pub found_apply : (folder file : Operand) (job : Job) (before now : Inputs) (found : Result (Vec ℕ Global) Refusal) (result : Outcome) → job ≡ Apply folder file → result ≡ of_text found →
+    FindsFrom HasItems (IsApply folder file (held_tree before.trees)) (Apply folder file) before now found → FindsJob StandsForOutput job before now result
+found_apply folder file job before now found result is same f =
+    subst (λ j. FindsJob StandsForOutput j before now result) (sym is) (found_text_of (IsApply folder file (held_tree before.trees)) (Apply folder file) before now found result same f)
 
 -- and of a sealing
-pub found_seal : (folder file : Operand) (job : Job) (words : Option Job) (before now : Inputs) (found : Result (Vec ℕ Global) Refusal) (result : Outcome) → words ≡ Some job → job ≡ Seal folder file → result ≡ of_text found →
-    FindsFrom HasItems (IsSeal folder file (held_tree before.trees)) (Seal folder file) before now found → FindsOutput words before now result
-found_seal folder file job words before now found result e is same f =
-    found_job (Seal folder file) words before now result (e ∙ ap Some is) (found_text_of (IsSeal folder file (held_tree before.trees)) (Seal folder file) before now found result same f)
+pub found_seal : (folder file : Operand) (job : Job) (before now : Inputs) (found : Result (Vec ℕ Global) Refusal) (result : Outcome) → job ≡ Seal folder file → result ≡ of_text found →
+    FindsFrom HasItems (IsSeal folder file (held_tree before.trees)) (Seal folder file) before now found → FindsJob StandsForOutput job before now result
+found_seal folder file job before now found result is same f =
+    subst (λ j. FindsJob StandsForOutput j before now result) (sym is) (found_text_of (IsSeal folder file (held_tree before.trees)) (Seal folder file) before now found result same f)

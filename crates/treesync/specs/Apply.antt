@@ -1,5 +1,5 @@
 -- The answer of `apply FOLDER SET`, and what becomes of the tree: the net set of SET is applied to the tree in FOLDER.
-use Rattle.std.specs.Prelude.{◌≡◌, ◌⊎◌, ◌++◌, ℕ, List, [], ◌∷◌, codes, decimal, true, false, ⊤, Option, None, Some, Result, Ok, Err, IfOk, Vec}
+use Rattle.std.specs.Prelude.{◌≡◌, ◌⊎◌, ◌++◌, ℕ, List, [], ◌∷◌, codes, decimal, true, false, ⊤, Option, None, Some, Result, Ok, Err, IfOk}
 use Rattle.sync_path.specs.Paths.{Node}
 use Rattle.sync_command.specs.Changes.{Change}
 use Rattle.sync_command.specs.Maps.{Store, at}
@@ -17,7 +17,6 @@ use Rattle.treesync.specs.Steer.{IsNetSet}
 use Rattle.treesync.specs.declared.logs.TheConstants.{FULL_ALLOWANCE}
 use Rattle.treesync.specs.declared.refusal.Refusal.{Refusal}
 use Rattle.treesync.specs.declared.refusal.Refusal.TheVariants.{InvalidArguments, OutOfMemory, CallFailed, Found}
-use Rattle.treesync.specs.declared.refusal.Failure.{Failure}
 use Rattle.treesync.specs.declared.refusal.Failure.TheVariants.{ReadFailed, TreeFailed, TreeDenied}
 use Rattle.treesync.specs.declared.refusal.Finding.TheVariants.{Blocked, Diverged}
 

@@ -1,6 +1,5 @@
 -- When a job prints: where the files hold what it asks for, only memory or a call that fails can keep it from that.
 use Rattle.std.specs.Prelude.{◌≡◌, ◌⊎◌, ◌≤◌, List, [], ◌∷◌, length, ⊤, Option, None, Some, ℕ}
-use Rattle.sync_command.specs.Changes.{Change}
 use Rattle.sync_command.specs.Maps.{at}
 use Rattle.sync_command.specs.Trees.{Takes}
 use Rattle.sync_command.specs.declared.commands.Row.{Row}
@@ -18,7 +17,7 @@ use Rattle.pref_list.specs.declared.rules.Rule.{Rule}
 use Rattle.tool_words.specs.Jobs.{job_of}
 use Rattle.tool_words.specs.Words.{Operand, Text}
 use Rattle.tool_words.specs.declared.job.Job.{Job}
-use Rattle.tool_words.specs.declared.job.Job.TheVariants.{Help, Replay, Canon, Conflicts, Merge, Transition, Steer, Seal, Apply, Drill}
+use Rattle.tool_words.specs.declared.job.Job.TheVariants.{Help, Replay, Canon, Conflicts, Merge, Transition, Steer, Record, Seal, Apply, Drill}
 use Rattle.treesync.specs.Headline.{HoldLogs, HoldsRules, IsMergerOf, Recorded, all_commands}
 use Rattle.treesync.specs.Jobs.{Outside}
 use Rattle.treesync.specs.declared.input.TheConstants.{FILE_LIMIT}
@@ -59,8 +58,8 @@ pub record HoldMerger (held : Names) (file : Operand) (files : List Operand) : T
   pub common : HasCommonTree (all_commands logs)
   pub is : IsMergerOf (all_commands logs) (canonical (net set.commands))
 
--- what a job asks of the files; all texts are in their grammar and within the limits (what `seal` and `apply` ask of
--- their trees too stands in the headline)
+-- what a job asks of the files; all texts are in their grammar and within the limits (what `record`, `seal` and
+-- `apply` ask of their trees too stands in the headline)
 abbrev pub IsMet : Job → Names → Type 0
 IsMet Help held = ⊤
 IsMet (Replay snap log) held = HoldReplay held snap log
@@ -69,6 +68,7 @@ IsMet (Conflicts files) held = HoldJoin held None files
 IsMet (Merge prefs files) held = HoldJoin held prefs files
 IsMet (Transition number prefs files) held = HoldJoin held prefs files
 IsMet (Steer file files) held = HoldMerger held file files
+IsMet (Record folder script) held = ⊥
 IsMet (Seal folder log) held = ⊥
 IsMet (Apply folder set) held = ⊥
 IsMet (Drill seed logs steps) held = ⊤

@@ -1,14 +1,15 @@
 -- The headline, in the words of the model: what `merge` prints, and when it prints; where each printed transition leads;
--- and that `apply`, stopped between any two calls of the tree and run again, ends there.
-use Rattle.std.specs.Prelude.{◌≡◌, ◌⊎◌, ◌≤◌, ◌-◌, ◌++◌, ℕ, List, [], ◌∷◌, map, length, ⊤, Option, None, Some}
+-- that `apply`, stopped between any two calls of the tree and run again, ends there; and what `record` and `seal` leave.
+use Rattle.std.specs.Prelude.{◌≡◌, ◌⊎◌, ◌≤◌, ◌-◌, ◌++◌, ℕ, List, [], ◌∷◌, map, length, ⊤, Option, None, Some, Ok}
 use Rattle.std.specs.List.{sum_by}
 use Rattle.sync_command.specs.Changes.{Change}
-use Rattle.sync_command.specs.Maps.{Store, at, stored}
+use Rattle.sync_command.specs.Maps.{IsTreeMap, Store, at, stored}
+use Rattle.sync_path.specs.Paths.{parts}
 use Rattle.sync_command.specs.Trees.{Fits, after}
 use Rattle.sync_command.specs.declared.values.Version.{Version}
 use Rattle.sync_command.specs.declared.values.Version.TheVariants.{One}
 use Rattle.sync_port.specs.States.{FaultCounted, IfKnown}
-use Rattle.sync_port.specs.Ports.{FileContents, Names, SinkState}
+use Rattle.sync_port.specs.Ports.{FileContents, Names, SinkContents, SinkState}
 use Rattle.canon_set.specs.Sets.{canonical}
 use Rattle.log_text.specs.Logs.{IsLog, log_text}
 use Rattle.refluent.specs.Clashes.{HasNoClash}
@@ -22,16 +23,21 @@ use Rattle.pref_list.specs.declared.rules.Rule.{Rule}
 use Rattle.merge_core.specs.Steering.{steering_rules}
 use Rattle.tool_words.specs.Jobs.{job_of}
 use Rattle.tool_words.specs.Words.{Operand, Text}
-use Rattle.tool_words.specs.declared.job.Job.TheVariants.{Apply, Conflicts, Merge, Seal, Steer, Transition}
-use Rattle.tree_port.specs.States.{Counts, IsCounted, TreeState}
+use Rattle.tool_words.specs.declared.job.Job.TheVariants.{Apply, Conflicts, Merge, Record, Seal, Steer, Transition}
+use Rattle.tree_port.specs.States.{TreeState}
 use Rattle.resume_apply.specs.Finishing.{IsPaid}
 use Rattle.resume_apply.specs.Ready.{IsOnItsWay, IsReady, work}
-use Rattle.record_core.specs.Seals.{IsLogOf, IsSealed, OpenLog}
+use Rattle.record_core.specs.Outcomes.{AtEnd, End, Large, Outcome as RecordOutcome, Refused, outcome_of}
+use Rattle.record_core.specs.Recording.{IsClosed, LeavesOpen}
+use Rattle.record_core.specs.Scripts.{script_of}
+use Rattle.record_core.specs.Seals.{IsLogOf, IsSealed, LeavesLog, OpenLog}
+use Rattle.record_core.specs.Validity.{HoldsValues}
 use Rattle.canon_set.specs.Logs.{IsTaken, net}
 use Rattle.treesync.specs.Apply.{applied_text}
 use Rattle.treesync.specs.Jobs.{IsCountedByFirst, Outside, held_tree}
 use Rattle.treesync.specs.Logs.{later_version}
 use Rattle.treesync.specs.Merge.{IsFirstMergerFor}
+use Rattle.treesync.specs.Record.{Script}
 use Rattle.treesync.specs.declared.input.TheConstants.{FILE_LIMIT}
 use Rattle.treesync.specs.declared.logs.TheConstants.{MAX_COMMANDS}
 use Rattle.treesync.specs.declared.preferences.TheConstants.{PREFS_LIMIT}
@@ -274,3 +280,45 @@ PrintsSealed words before now status =
     (folder file : Operand) (m : FileContents) (text : List ℕ) (log : OpenLog) (tree : Store) →
     job_of words ≡ Some (Seal folder file) → before.files.contents ≡ Some m → HoldsOpen m.held file text log →
     held_tree before.trees ≡ Some tree → SealsHeld log tree before now status
+
+-- ---- `record`
+
+-- the file holds the text of a script within the limit
+pub record HoldsScript (held : Names) (file : Operand) (script : Script) : Type 0 where
+  pub text : List ℕ
+  pub there : held file.text ≡ Some text
+  pub bytes : length text ≤ FILE_LIMIT
+  pub read : script_of (parts 10 text) ≡ Ok script
+
+-- the status of a script's end
+abbrev pub end_status : End → ℕ
+end_status AtEnd = 0
+end_status (Refused number why) = 15
+end_status Large = 12
+
+-- What a recording leaves of `out` and of the tree. With the statuses 0, 12 and 15 the log of the operations before the
+-- script's end was closed, and the tree is its result. With every other one its first bytes were written: the tree is the
+-- result of the commands whose lines are whole, or of all of these but the last. Where the tree held paths and values
+-- alone, what was written is an open log that `seal` closes: its sealed list is the one whose result the tree is.
+pub record LeavesRecording (version : Version) (run : RecordOutcome) (status : ℕ) (x y : SinkContents) (m n : Store) : Type 0 where
+  pub closed : (status ≡ 0) ⊎ ((status ≡ 12) ⊎ (status ≡ 15)) → (status ≡ end_status run.end) × IsClosed version run.commands x y m n
+  pub left : IsClosed version run.commands x y m n ⊎ LeavesOpen version run.commands x y m n
+  pub log : IsTreeMap m → HoldsValues (at m) → LeavesLog run.commands x y m n
+
+-- It leaves that of a script that is held, over a tree and an `out` that are known; and it comes to the script's end, or
+-- memory ran out, unless a fault was counted.
+pub record RecordsHeld (script : Script) (m : Store) (x : SinkContents) (before now : Outside) (status : ℕ) : Type 0 where
+  pub tree : Store
+  pub held : held_tree now.trees ≡ Some tree
+  pub written : SinkContents
+  pub known : now.out.contents ≡ Some written
+  pub leaves : LeavesRecording script.0 (outcome_of script.0 m script.1) status x written m tree
+  pub completes : (IsCountedByFirst (λ c. c.faults) before.trees now.trees → ⊥) → (FaultCounted before.files now.files → ⊥) →
+      (FaultCounted before.out now.out → ⊥) → (status ≡ end_status (outcome_of script.0 m script.1).end) ⊎ (status ≡ 16)
+
+-- Each change of a tree is on the log before it is made, whatever stops a `record`.
+abbrev pub PrintsRecorded : List Text → Outside → Outside → ℕ → Type 0
+PrintsRecorded words before now status =
+    (folder file : Operand) (m : FileContents) (script : Script) (tree : Store) (x : SinkContents) →
+    job_of words ≡ Some (Record folder file) → before.files.contents ≡ Some m → HoldsScript m.held file script →
+    held_tree before.trees ≡ Some tree → before.out.contents ≡ Some x → RecordsHeld script tree x before now status

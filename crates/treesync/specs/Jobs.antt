@@ -7,7 +7,7 @@ use Rattle.sync_command.specs.Maps.{Store}
 use Rattle.tree_port.specs.States.{Counts, IsCounted, NoneFell, TreeState}
 use Rattle.tool_words.specs.Words.{Operand}
 use Rattle.tool_words.specs.declared.job.Job.{Job}
-use Rattle.tool_words.specs.declared.job.Job.TheVariants.{Help, Replay, Canon, Conflicts, Merge, Transition, Steer, Seal, Apply, Drill}
+use Rattle.tool_words.specs.declared.job.Job.TheVariants.{Help, Replay, Canon, Conflicts, Merge, Transition, Steer, Record, Seal, Apply, Drill}
 use Rattle.tool_words.specs.Jobs.{job_of}
 use Rattle.tool_words.specs.Help.{help_text}
 use Rattle.tool_words.specs.Trees.{folder_places}
@@ -24,6 +24,7 @@ use Rattle.treesync.specs.Transition.{IsTransition}
 use Rattle.treesync.specs.Ends.{Prints, Says, line_of}
 use Rattle.treesync.specs.Outputs.{AsText, Output}
 use Rattle.treesync.specs.Replay.{IsReplay}
+use Rattle.treesync.specs.Record.{IsRecord}
 use Rattle.treesync.specs.Seal.{IsSeal, LooksAtOnly}
 use Rattle.treesync.specs.declared.input.TheConstants.{FILE_LIMIT}
 use Rattle.treesync.specs.declared.refusal.Refusal.{Refusal}
@@ -41,6 +42,7 @@ IsJobAnswer (Conflicts logs) tree = IsConflicts logs
 IsJobAnswer (Merge prefs logs) tree = AsText (IsMerge prefs logs)
 IsJobAnswer (Transition number prefs logs) tree = AsText (IsTransition number prefs logs)
 IsJobAnswer (Steer set logs) tree = AsText (IsSteer set logs)
+IsJobAnswer (Record folder script) tree = AsText (IsRecord script tree)
 IsJobAnswer (Seal folder log) tree = AsText (IsSeal folder log tree)
 IsJobAnswer (Apply folder set) tree = AsText (IsApply folder set tree)
 IsJobAnswer (Drill seed logs steps) tree = AsText (IsDrill seed logs steps)
@@ -54,6 +56,7 @@ limits_of (Conflicts logs) = log_limits logs
 limits_of (Merge prefs logs) = preference_limits prefs ++ log_limits logs
 limits_of (Transition number prefs logs) = preference_limits prefs ++ log_limits logs
 limits_of (Steer set logs) = FILE_LIMIT ∷ log_limits logs
+limits_of (Record folder script) = FILE_LIMIT ∷ []
 limits_of (Seal folder log) = FILE_LIMIT ∷ []
 limits_of (Apply folder set) = FILE_LIMIT ∷ []
 limits_of (Drill seed logs steps) = []
@@ -115,7 +118,7 @@ abbrev pub IsRefused : {X : Type 0} → Result X Refusal → Type 0
 IsRefused (Ok x) = ⊥
 IsRefused (Err r) = ⊤
 
--- What becomes of the trees of a job: they are as before, and that is no answer of `apply`; or its set was applied; or
+-- What becomes of the trees of a job that finds its answer before it prints: they are as before, and that is no answer of `apply`; or its set was applied; or
 -- they were looked at.
 abbrev pub LeavesTrees : {X : Type 0} → Job → Option FileContents → Result X Refusal → List TreeState → List TreeState → Type 0
 LeavesTrees (Apply folder file) files result trees later = ((later ≡ trees) × IsRefused result) ⊎ AppliesFile file files result trees later

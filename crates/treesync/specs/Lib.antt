@@ -13,9 +13,11 @@ pub mod Conflicts
 pub mod Apply
 pub mod Drill
 pub mod Seal
+pub mod Record
 pub mod Answering
 pub mod Writing
 pub mod Jobs
+pub mod Runs
 pub mod Headline
 pub mod Completeness
 pub mod Messages

@@ -7,10 +7,12 @@ use Rattle.treesync.specs.declared.refusal.Refusal.TheVariants.{InvalidArguments
 use Rattle.treesync.specs.declared.refusal.Failure.{Failure}
 use Rattle.treesync.specs.declared.refusal.Failure.TheVariants.{ReadFailed, TreeFailed, TreeDenied}
 use Rattle.treesync.specs.declared.refusal.Finding.{Finding}
-use Rattle.treesync.specs.declared.refusal.Finding.TheVariants.{TooLarge, Text, NoTree, NoCommonTree, NoSuchLog, NoCommand, Diverged, Blocked, NotDrawn, DoesNotFit, CanAdd, NotTaken}
+use Rattle.treesync.specs.declared.refusal.Finding.TheVariants.{TooLarge, Text, NoTree, NoCommonTree, NoSuchLog, NoCommand, Diverged, Blocked, NotDrawn, DoesNotFit, CanAdd, OpRefused, NotTaken}
 use Rattle.tool_words.specs.Operands.{text_at}
 use Rattle.log_text.specs.declared.faults.TextKind.{TextKind}
 use Rattle.log_text.specs.declared.faults.TextKind.TheVariants as kind
+use Rattle.record_core.specs.declared.faults.Why.{Why}
+use Rattle.record_core.specs.declared.faults.Why.TheVariants as why
 
 abbrev pub finding_status : Finding → ℕ
 finding_status (Text word fault) = 5
@@ -24,6 +26,7 @@ finding_status (NoCommand word number) = 13
 finding_status (NotDrawn word path) = 14
 finding_status (DoesNotFit word path) = 14
 finding_status (CanAdd word log path) = 14
+finding_status (OpRefused word number why) = 15
 finding_status (NotTaken word number) = 17
 
 abbrev pub failure_status : Failure → ℕ
@@ -54,6 +57,18 @@ kind_name kind.End = codes "end"
 kind_name kind.Count = codes "count"
 kind_name kind.After = codes "after"
 
+-- why an operation is refused
+abbrev pub why_name : Why → List ℕ
+why_name why.Missing = codes "missing"
+why_name why.Exists = codes "exists"
+why_name why.NoParent = codes "no-parent"
+why_name why.IsDir = codes "is-dir"
+why_name why.NotEmpty = codes "not-empty"
+why_name why.Inside = codes "inside"
+why_name why.TooDeep = codes "too-deep"
+why_name why.NotDir = codes "not-dir"
+why_name why.Labelled = codes "labelled"
+
 -- `treesync: WHAT`
 abbrev pub what_line : List ℕ → List ℕ
 what_line what = concat (codes "treesync: " ∷ what ∷ codes "\n" ∷ [])
@@ -83,7 +98,7 @@ path_line word what path = line_at (codes "treesync: " ∷ word ∷ codes ": " �
 abbrev pub can_add_line : List ℕ → ℕ → Node → List ℕ
 can_add_line word log path = line_at (codes "treesync: " ∷ word ∷ codes ": " ∷ codes "can add log " ∷ decimal log ∷ codes " at " ∷ []) path
 
--- the line of a finding; a log's command and a rule are one line after their number
+-- the line of a finding; a log's command, a rule and an operation are one line after their number
 abbrev pub finding_message : List (List ℕ) → Finding → List ℕ
 finding_message words (TooLarge word) = file_line (text_at words word) (codes "too large")
 finding_message words (Text word fault) = numbered_line (text_at words word) (decimal fault.line) (kind_name fault.kind)
@@ -96,6 +111,7 @@ finding_message words (Blocked word path) = path_line (text_at words word) (code
 finding_message words (NotDrawn word path) = path_line (text_at words word) (codes "not drawn at ") path
 finding_message words (DoesNotFit word path) = path_line (text_at words word) (codes "does not fit at ") path
 finding_message words (CanAdd word log path) = can_add_line (text_at words word) log path
+finding_message words (OpRefused word number why) = numbered_line (text_at words word) (decimal (number + 1)) (why_name why)
 finding_message words (NotTaken word number) = numbered_line (text_at words word) (decimal (number + 1)) (codes "not taken")
 
 -- the line of a call that was refused

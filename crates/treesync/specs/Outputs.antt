@@ -1,5 +1,5 @@
 -- What a job prints, and the status with which the whole of it is printed.
-use Rattle.std.specs.Prelude.{◌≡◌, ◌++◌, ℕ, List, [], ◌∷◌, length, codes, decimal, Result, Ok}
+use Rattle.std.specs.Prelude.{◌≡◌, ◌++◌, ℕ, List, [], ◌∷◌, length, codes, decimal, Ok}
 use Rattle.std.specs.List.{concat}
 use Rattle.log_text.specs.Frame.{ended}
 use Rattle.treesync.specs.Checks.{Check, Judged, Then}

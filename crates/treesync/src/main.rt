@@ -11,6 +11,7 @@ mod joining;
 mod logs;
 mod merge;
 mod preferences;
+mod record;
 mod refusal;
 mod replay;
 mod report;

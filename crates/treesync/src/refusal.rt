@@ -4,6 +4,7 @@ ghost use Rattle.std.specs.Prelude.{◌≡◌};
 ghost use Rattle.treesync.specs.declared.refusal.Refusal.TheVariants.{OutOfMemory};
 
 use log_text::TextFault;
+use record_core::Why;
 use sync_path::{NoMemory, Path};
 
 /// Why a job is refused. A kind of refusal stands here by how it is shown to be right: what is wrong with the words
@@ -32,33 +33,77 @@ pub enum Failure {
     TreeDenied { word: usize },
 }
 
-/// What is wrong with what was read. Words count from 0; lines, commands, logs and rules from 1.
+/// What is wrong with what was read. Words count from 0; lines, commands, logs, rules and
+/// operations from 1.
 #[derive(Debug, Drop)]
 pub enum Finding {
     /// The file is too large.
-    TooLarge { word: usize },
+    TooLarge {
+        word: usize,
+    },
     /// The file's text is not in its grammar.
-    Text { word: usize, fault: TextFault },
+    Text {
+        word: usize,
+        fault: TextFault,
+    },
     /// No tree takes the log as far as this command.
-    NoTree { word: usize, number: usize },
+    NoTree {
+        word: usize,
+        number: usize,
+    },
     /// No tree takes all the logs: the least two that disagree, and the first node at which they do.
-    NoCommonTree { first: u32, second: u32, path: Path },
+    NoCommonTree {
+        first: u32,
+        second: u32,
+        path: Path,
+    },
     /// The log that a rule names is none of the job's.
-    NoSuchLog { word: usize, number: usize },
+    NoSuchLog {
+        word: usize,
+        number: usize,
+    },
     /// The log that a rule names has no net command at the rule's path.
-    NoCommand { word: usize, number: usize },
+    NoCommand {
+        word: usize,
+        number: usize,
+    },
     /// The path holds none of the values at which the set's command there can begin or go on.
-    Diverged { word: usize, path: Path },
+    Diverged {
+        word: usize,
+        path: Path,
+    },
     /// With the set done, the path holds something below what is no directory.
-    Blocked { word: usize, path: Path },
+    Blocked {
+        word: usize,
+        path: Path,
+    },
     /// The set has a command at the path that no log's net set has.
-    NotDrawn { word: usize, path: Path },
+    NotDrawn {
+        word: usize,
+        path: Path,
+    },
     /// With the set done, the path holds something where it may not.
-    DoesNotFit { word: usize, path: Path },
+    DoesNotFit {
+        word: usize,
+        path: Path,
+    },
     /// The log's net command at the path can be added to the set.
-    CanAdd { word: usize, log: u32, path: Path },
+    CanAdd {
+        word: usize,
+        log: u32,
+        path: Path,
+    },
+    /// The operation of the script is refused on the tree as it is then.
+    OpRefused {
+        word: usize,
+        number: usize,
+        why: Why,
+    },
     /// The tree does not take this command of the log.
-    NotTaken { word: usize, number: usize },
+    NotTaken {
+        word: usize,
+        number: usize,
+    },
 }
 
 impl From<NoMemory> for Refusal {

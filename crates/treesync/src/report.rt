@@ -7,7 +7,7 @@ ghost use Rattle.sync_port.specs.Sending.{Sends};
 ghost use Rattle.treesync.specs.Answering.{output_of};
 ghost use Rattle.treesync.specs.Conflicts.{clash_lines};
 ghost use Rattle.treesync.specs.Ends.{Prints, PrintsAll, Says, end_line, line_of};
-ghost use Rattle.treesync.specs.Messages.{status_of, failure_status, finding_status, message_of, failure_message, finding_message, what_line, file_line, numbered_line, line_at, path_line, disagreement_line, can_add_line, kind_name};
+ghost use Rattle.treesync.specs.Messages.{status_of, failure_status, finding_status, message_of, failure_message, finding_message, what_line, file_line, numbered_line, line_at, path_line, disagreement_line, can_add_line, kind_name, why_name};
 ghost use Rattle.treesync.specs.Outputs.{ClashLines, WholeText, status_in, text_in};
 ghost use Rattle.treesync.specs.Writing.{WriteFaults, WritesLines};
 ghost use Rattle.tool_words.specs.Operands.{text_at};
@@ -18,6 +18,7 @@ use crate::writing::{WriteFault, write_clashes};
 use crate::{Answer, Failure, Finding, Refusal};
 use itoa::Buffer;
 use log_text::TextKind;
+use record_core::Why;
 use refluent::Joint;
 use std::alloc::Global;
 use sync_path::Path;
@@ -40,6 +41,7 @@ fn finding_status(finding: &Finding) -> u8
         Finding::NotDrawn { .. } => 14,
         Finding::DoesNotFit { .. } => 14,
         Finding::CanAdd { .. } => 14,
+        Finding::OpRefused { .. } => 15,
         Finding::NotTaken { .. } => 17,
     }
 }
@@ -86,6 +88,23 @@ fn kind_text(kind: TextKind) -> &'static str
         TextKind::End => texts::END,
         TextKind::Count => texts::COUNT,
         TextKind::After => texts::AFTER,
+    }
+}
+
+/// The printed word of why an operation is refused.
+fn why_text(why: Why) -> &'static str
+    ensures { result.now ≡ why_name why }
+{
+    match why {
+        Why::Missing => texts::MISSING,
+        Why::Exists => texts::EXISTS,
+        Why::NoParent => texts::NO_PARENT,
+        Why::IsDir => texts::IS_DIR,
+        Why::NotEmpty => texts::NOT_EMPTY,
+        Why::Inside => texts::INSIDE,
+        Why::TooDeep => texts::TOO_DEEP,
+        Why::NotDir => texts::NOT_DIR,
+        Why::Labelled => texts::LABELLED,
     }
 }
 
@@ -299,6 +318,9 @@ fn say_finding<E: Sink>(err: &mut E, words: &[String], finding: &Finding) -> Res
             say_of_path(err, words, *word, texts::DOES_NOT_FIT, path)
         }
         Finding::CanAdd { word, log, path } => say_can_add(err, words, *word, *log, path),
+        Finding::OpRefused { word, number, why } => {
+            say_of_line(err, words, *word, *number as u128 + 1, why_text(*why))
+        }
         Finding::NotTaken { word, number } => {
             say_of_line(err, words, *word, *number as u128 + 1, texts::NOT_TAKEN)
         }
@@ -399,7 +421,7 @@ fn print_answer<O: Sink>(alloc: Global, out: &mut O, answer: &Answer) -> u8
 }
 
 /// Sends the line of the status with which printing ended.
-fn say_end<E: Sink>(err: &mut E, status: u8)
+pub fn say_end<E: Sink>(err: &mut E, status: u8)
     ensures later { (E.sink err.old).faults ≤ (E.sink err.new).faults }
     ensures says { Says (end_line status) (E.sink err.old) (E.sink err.new) }
 {

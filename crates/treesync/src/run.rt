@@ -9,8 +9,9 @@ ghost use Rattle.tool_words.specs.Trees.{job_folders};
 ghost use Rattle.treesync.specs.Answering.{StandsForOutput};
 ghost use Rattle.treesync.specs.Checks.{Answers, HasItems, IsJudged, IsOne};
 ghost use Rattle.treesync.specs.Completeness.{CompletesJob};
-ghost use Rattle.treesync.specs.Headline.{KeepsUnready, PrintsApplied, PrintsMerger, PrintsRules, PrintsSealed, PrintsSteered, PrintsTransition, ResumesApply, TellsClashes};
-ghost use Rattle.treesync.specs.Jobs.{Finds, HasItsTrees, IsAnswer, IsJobAnswer, inputs, limits_of, outside, Ran, Keeps, NoneFailed};
+ghost use Rattle.treesync.specs.Headline.{KeepsUnready, PrintsApplied, PrintsMerger, PrintsRecorded, PrintsRules, PrintsSealed, PrintsSteered, PrintsTransition, ResumesApply, TellsClashes};
+ghost use Rattle.treesync.specs.Jobs.{FindsJob, HasItsTrees, IsAnswer, IsJobAnswer, Keeps, NoneFailed, inputs, limits_of, outside};
+ghost use Rattle.treesync.specs.Runs.{EndsRight, IsAnswered, Runs, words_refusal};
 
 use crate::answer::{of_joint, of_text};
 use crate::apply::apply;
@@ -18,6 +19,7 @@ use crate::canon::canon;
 use crate::conflicts::conflicts;
 use crate::drill::drill;
 use crate::merge::merge;
+use crate::record::record;
 use crate::replay::replay;
 use crate::report::report;
 use crate::seal::seal;
@@ -69,30 +71,80 @@ fn job_answer<F: Files>(alloc: Global, job: &Job, files: &mut F) -> Result<Answe
             of_text(steer(alloc, set.place(), set.as_str(), logs, files))
         }
         Job::Drill { seed, logs, steps } => of_text(drill(alloc, *seed, *logs, *steps)),
-        Job::Seal { .. } | Job::Apply { .. } => unreachable!(),
+        Job::Record { .. } | Job::Seal { .. } | Job::Apply { .. } => unreachable!(),
     }
 }
 
-/// The answer of the words.
-fn words_answer<F: Files>(
+/// The answer of a job that is no recording.
+fn find_answer<F: Files>(
+    alloc: Global,
+    job: &Job,
+    files: &mut F,
+    trees: &mut Vec<Box<dyn Tree>>,
+) -> Result<Answer, Refusal>
+    requires few { HasFewLogs job.now }
+    requires answered { IsAnswered job.now }
+    ensures { length trees.old.items ≡ length (job_folders job.now) →
+        FindsJob StandsForOutput job.now
+        (inputs (F.files files.old) (map (λ tree. live tree) trees.old.items))
+        (inputs (F.files files.new) (map (λ tree. live tree) trees.new.items)) result }
+{
+    match job {
+        Job::Seal { folder, log } => of_text(seal(alloc, folder, log, files, trees)),
+        Job::Apply { folder, set } => of_text(apply(alloc, folder, set, files, trees)),
+        _ => job_answer(alloc, job, files),
+    }
+}
+
+/// Why there is no job.
+fn words_refusal(fault: WordFault) -> Refusal
+    ensures { result ≡ words_refusal fault }
+{
+    match fault {
+        WordFault::Refused => Refusal::InvalidArguments,
+        WordFault::Memory => Refusal::OutOfMemory,
+    }
+}
+
+/// Finds the answer of the words and prints it, or makes the recording that they ask for.
+fn run_words<F: Files, O: Sink, E: Sink>(
     alloc: Global,
     words: &[String],
     files: &mut F,
     trees: &mut Vec<Box<dyn Tree>>,
-) -> Result<Answer, Refusal>
-    ensures { HasItsTrees (map string_bytes words.now) trees.old.items →
-        Finds StandsForOutput (job_of (map string_bytes words.now))
-        (inputs (F.files files.old) (map (λ tree. live tree) trees.old.items))
-        (inputs (F.files files.new) (map (λ tree. live tree) trees.new.items)) result }
+    out: &mut O,
+    err: &mut E,
+) -> u8
+    ensures runs { HasItsTrees (map string_bytes words.now) trees.old.items →
+        Runs (map string_bytes words.now)
+        (outside (F.files files.old) (map (λ tree. live tree) trees.old.items) (O.sink out.old)
+        (E.sink err.old))
+        (outside (F.files files.new) (map (λ tree. live tree) trees.new.items) (O.sink out.new)
+        (E.sink err.new)) result }
+    ensures keeps { HasItsTrees (map string_bytes words.now) trees.old.items →
+        Keeps (map string_bytes words.now)
+        (outside (F.files files.old) (map (λ tree. live tree) trees.old.items) (O.sink out.old)
+        (E.sink err.old))
+        (outside (F.files files.new) (map (λ tree. live tree) trees.new.items) (O.sink out.new)
+        (E.sink err.new)) }
+    ensures ends { HasItsTrees (map string_bytes words.now) trees.old.items →
+        EndsRight (job_of (map string_bytes words.now))
+        (outside (F.files files.old) (map (λ tree. live tree) trees.old.items) (O.sink out.old)
+        (E.sink err.old))
+        (outside (F.files files.new) (map (λ tree. live tree) trees.new.items) (O.sink out.new)
+        (E.sink err.new)) result }
 {
     match read_words(alloc, words) {
         Ok(job) => match &job {
-            Job::Seal { folder, log } => of_text(seal(alloc, folder, log, files, trees)),
-            Job::Apply { folder, set } => of_text(apply(alloc, folder, set, files, trees)),
-            _ => job_answer(alloc, &job, files),
+            Job::Record { folder, script } => {
+                record(alloc, words, folder, script, files, trees, out, err)
+            }
+            _ => {
+                let answer = find_answer(alloc, &job, files, trees);
+                report(alloc, words, answer, out, err)
+            }
         },
-        Err(WordFault::Refused) => Err(Refusal::InvalidArguments),
-        Err(WordFault::Memory) => Err(Refusal::OutOfMemory),
+        Err(fault) => report(alloc, words, Err(words_refusal(fault)), out, err),
     }
 }
 
@@ -127,7 +179,7 @@ pub fn run<F: Files, O: Sink, E: Sink>(
     err: &mut E,
 ) -> u8
     ensures ran { HasItsTrees (map string_bytes words.now) trees.old.items →
-        Ran (map string_bytes words.now)
+        Runs (map string_bytes words.now)
         (outside (F.files files.old) (map (λ tree. live tree) trees.old.items) (O.sink out.old)
         (E.sink err.old))
         (outside (F.files files.new) (map (λ tree. live tree) trees.new.items) (O.sink out.new)
@@ -204,6 +256,12 @@ pub fn run<F: Files, O: Sink, E: Sink>(
         (E.sink err.old))
         (outside (F.files files.new) (map (λ tree. live tree) trees.new.items) (O.sink out.new)
         (E.sink err.new)) result }
+    ensures records { HasItsTrees (map string_bytes words.now) trees.old.items →
+        PrintsRecorded (map string_bytes words.now)
+        (outside (F.files files.old) (map (λ tree. live tree) trees.old.items) (O.sink out.old)
+        (E.sink err.old))
+        (outside (F.files files.new) (map (λ tree. live tree) trees.new.items) (O.sink out.new)
+        (E.sink err.new)) result }
     ensures done { HasItsTrees (map string_bytes words.now) trees.old.items →
         result ≤ 1 → NoneFailed
         (outside (F.files files.old) (map (λ tree. live tree) trees.old.items) (O.sink out.old)
@@ -211,6 +269,5 @@ pub fn run<F: Files, O: Sink, E: Sink>(
         (outside (F.files files.new) (map (λ tree. live tree) trees.new.items) (O.sink out.new)
         (E.sink err.new)) }
 {
-    let answer = words_answer(alloc, words, files, trees);
-    report(alloc, words, answer, out, err)
+    run_words(alloc, words, files, trees, out, err)
 }

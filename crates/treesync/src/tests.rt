@@ -4,6 +4,7 @@ mod applies;
 mod clashing;
 mod drills;
 mod machines;
+mod records;
 mod seals;
 
 use self::clashing::CLASHES;
@@ -99,7 +100,7 @@ const FILE_A: &str = "treesnap 1\na f:1\nend 1\n";
 fn jobs_have_their_answers(rt: HostRuntime) -> Result<(), Fail> {
     let alloc = rt.alloc();
     let help =
-        "usage: treesync COMMAND WORDS\n  replay SNAP LOG\n  canon LOG\n  conflicts LOG...\n  merge [--prefs FILE] LOG...\n  transition [--prefs FILE] N LOG...\n  steer SET LOG...\n  seal FOLDER LOG\n  apply FOLDER SET\n  drill SEED LOGS STEPS\n";
+        "usage: treesync COMMAND WORDS\n  replay SNAP LOG\n  canon LOG\n  conflicts LOG...\n  merge [--prefs FILE] LOG...\n  transition [--prefs FILE] N LOG...\n  steer SET LOG...\n  record FOLDER SCRIPT\n  seal FOLDER LOG\n  apply FOLDER SET\n  drill SEED LOGS STEPS\n";
     let refused = "treesync: words refused\n";
     let ordered = "treesnap 1\na d\na/b f:\na-b f:1\nend 3\n";
     let turned = "treesnap 1\na d\na-b f:1\na/b f:\nend 3\n";

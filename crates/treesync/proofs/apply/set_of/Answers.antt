@@ -1,5 +1,4 @@
 use Rattle.std.proofs.Common.{◌≡◌, ◌∷◌, []}
-use Rattle.treesync.specs.Apply.{IsSetOf}
 use Rattle.treesync.specs.Logs.{IsLog, IsLogFile, IsTotal, ReadLog}
 use Rattle.treesync.specs.Steer.{IsNetSet}
 use Rattle.treesync.specs.declared.input.TheConstants.{FILE_LIMIT}

@@ -1,6 +1,4 @@
-use Rattle.std.proofs.Common.{◌<◌, ◌≤◌, length, add-one, arith, ap, ◌∙◌}
-use Rattle.treesync.specs.Joining.{joint_version}
-use Rattle.treesync.specs.Logs.{later_version}
+use Rattle.std.proofs.Common.{add-one, arith, ◌∙◌}
 use Rattle.treesync.proofs.JoinLemmas.{version_all, version_more}
 use Rattle.treesync.proofs.joining.joint_version.Goals as goal
 

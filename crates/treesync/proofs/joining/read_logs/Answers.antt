@@ -1,7 +1,7 @@
 use Rattle.std.proofs.Common.{◌∷◌, [], ap, arith, length, length-append, refl, rules, add-one}
 use Rattle.treesync.specs.Joining.{IsLogs, log_limits}
 use Rattle.treesync.specs.declared.logs.TheConstants.{FULL_ALLOWANCE}
-use Rattle.treesync.proofs.JoinLemmas.{LeadsTo, all_done, all_dropped, log_read, log_refused, memory_out, none_done}
+use Rattle.treesync.proofs.JoinLemmas.{all_done, all_dropped, log_read, log_refused, memory_out, none_done}
 use Rattle.treesync.proofs.joining.read_logs.Goals as goal
 
 pub names-init : goal.names-init

@@ -1,11 +1,8 @@
-use Rattle.std.proofs.Common.{◌∷◌, [], ◌≤◌, add-one, ap, arith, length, length-append, rules, subst, sym}
+use Rattle.std.proofs.Common.{◌∷◌, [], add-one, ap, arith, length, length-append, rules}
 use Rattle.std.proofs.lemmas.Iterator.Adapters.{YieldsList-from_vec}
 use Rattle.std.proofs.lemmas.Iterator.Consumers.{YieldsList-end, YieldsList-from_enumerate, YieldsList-turn}
 use Rattle.std.proofs.lemmas.List.{length_push}
-use Rattle.std.specs.Option.{option_map}
-use Rattle.std.specs.List.{slice_get}
-use Rattle.tool_words.specs.Words.{Operand}
-use Rattle.treesync.proofs.JoinLemmas.{SumsSoFar, all_counted, all_sums, counted, one_broken, one_sum}
+use Rattle.treesync.proofs.JoinLemmas.{all_counted, all_sums, counted, one_broken, one_sum}
 use Rattle.treesync.proofs.joining.sums_of.Goals as goal
 
 pub returns-in-Some-broken-clause-sums : goal.returns-in-Some-broken-clause-sums

@@ -1,8 +1,8 @@
-use Rattle.std.proofs.Common.{◌≡◌, ◌+◌, ◌-◌, ◌<◌, ◌≤◌, ◌++◌, List, ℕ, [], ◌∷◌, length, take, arith, rules, length-append, length-take, subst}
+use Rattle.std.proofs.Common.{◌≡◌, ◌<◌, ◌≤◌, ◌++◌, [], ◌∷◌, length, take, arith, rules, length-append, length-take}
 use Rattle.sync_path.specs.Paths.{parts}
 use Rattle.log_text.specs.Logs.{log_of}
 use Rattle.treesync.specs.Files.{IsFile}
-use Rattle.treesync.specs.Logs.{IsFed, IsLogFile, log_answer}
+use Rattle.treesync.specs.Logs.{IsLogFile, log_answer}
 use Rattle.treesync.proofs.CheckLemmas.{then_judged}
 use Rattle.treesync.proofs.FileReading.{AreBytes, all_read, read_more}
 use Rattle.treesync.proofs.LogReading.{judged_same}

@@ -2,7 +2,7 @@ use Rattle.treesync.specs.Checks.{HasItems, Next}
 use Rattle.treesync.specs.Joining.{AreJoined, AreLogFiles, IsJoined, IsLogs, log_limits}
 use Rattle.treesync.specs.Merge.{IsMerged}
 use Rattle.treesync.specs.declared.logs.TheConstants.{FULL_ALLOWANCE}
-use Rattle.treesync.proofs.CheckLemmas.{judged_handed_on, judged_next, then_handed_on, then_judged}
+use Rattle.treesync.proofs.CheckLemmas.{judged_handed_on, judged_next, then_judged}
 use Rattle.treesync.proofs.merge.merge_under.Goals as goal
 
 pub returns-in_err-joined : goal.returns-in_err-joined

@@ -1,4 +1,3 @@
-use Rattle.std.specs.List.{concat}
 use Rattle.treesync.specs.Conflicts.{clash_lines}
 use Rattle.treesync.specs.Outputs.{ClashLines, text_in}
 use Rattle.treesync.specs.declared.writing.WriteFault.TheVariants.{Failed}

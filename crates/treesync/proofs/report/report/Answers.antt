@@ -1,4 +1,3 @@
-use Rattle.std.proofs.Common.{rules}
 use Rattle.treesync.proofs.Sending.{says}
 use Rattle.treesync.proofs.report.report.Goals as goal
 

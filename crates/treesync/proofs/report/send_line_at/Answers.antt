@@ -1,7 +1,5 @@
-use Rattle.std.proofs.Common.{◌≡◌, ◌∷◌, [], codes, map}
+use Rattle.std.proofs.Common.{◌≡◌, ◌∷◌, []}
 use Rattle.std.proofs.lemmas.Result.{err_from_is_err_and}
-use Rattle.std.specs.List.{concat}
-use Rattle.sync_path.specs.Paths.{path_text}
 use Rattle.treesync.proofs.Sending.{line_sent, path_stops, sends_stop}
 use Rattle.treesync.proofs.report.send_line_at.Goals as goal
 

@@ -1,9 +1,9 @@
-use Rattle.std.proofs.Common.{◌<◌, ◌≤◌, ◌≡◌, length, subst, sym, arith}
+use Rattle.std.proofs.Common.{arith}
 use Rattle.treesync.specs.Checks.{HasItems, Next}
 use Rattle.treesync.specs.Joining.{AreJoined, AreLogFiles, IsJoined, IsLogs, log_limits}
 use Rattle.treesync.specs.Transition.{IsTransitioned}
 use Rattle.treesync.specs.declared.logs.TheConstants.{FULL_ALLOWANCE}
-use Rattle.treesync.proofs.CheckLemmas.{judged_handed_on, judged_next, then_handed_on, then_judged}
+use Rattle.treesync.proofs.CheckLemmas.{judged_handed_on, judged_next, then_judged}
 use Rattle.treesync.proofs.TransitionLemmas.{joined_many}
 use Rattle.treesync.proofs.transitions.transition_under.Goals as goal
 

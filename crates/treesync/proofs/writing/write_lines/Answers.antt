@@ -1,4 +1,4 @@
-use Rattle.std.proofs.Common.{◌≡◌, ◌∙◌, ◌∷◌, ◌+◌, ◌++◌, List, length, ap, arith, subst, refl}
+use Rattle.std.proofs.Common.{◌≡◌, ◌∙◌, ◌∷◌, ◌++◌, List, length, ap, arith, subst, refl}
 use Rattle.std.proofs.lemmas.Result.{err_from_is_err_and}
 use Rattle.std.specs.List.{concat}
 use Rattle.log_text.specs.Frame.{ended}
@@ -6,7 +6,7 @@ use Rattle.sync_port.specs.States.{IfKnown}
 use Rattle.sync_port.specs.Sending.{Passes}
 use Rattle.clash_list.specs.declared.clashes.Clash.{Clash}
 use Rattle.treesync.specs.Conflicts.{clash_text, lines_of}
-use Rattle.treesync.proofs.WritingLemmas.{line_passed, line_stopped, lines_begin, lines_end, lines_stopped}
+use Rattle.treesync.proofs.WritingLemmas.{line_passed, line_stopped, lines_begin, lines_stopped}
 use Rattle.treesync.proofs.writing.write_lines.Goals as goal
 
 pub clashes-init : goal.clashes-init
