@@ -4,6 +4,7 @@
 
 mod canon;
 mod drill;
+mod folders;
 mod hash;
 mod joint;
 mod merge;
@@ -85,6 +86,8 @@ fn main() {
     match (command.as_str(), words.len()) {
         ("canon", 1) => canon::canon(&words[0]),
         ("replay", 2) => replay::replay(&words[0], &words[1]),
+        ("apply", 2) => folders::apply(&words[0], &words[1]),
+        ("record", 2) => folders::record(&words[0], &words[1]),
         ("conflicts", 1..=64) => std::process::exit(merge::conflicts(&words)),
         ("merge", 1..=64) => {
             let joint = merged(&words, rules.as_deref());
