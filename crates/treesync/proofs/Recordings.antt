@@ -200,7 +200,7 @@ both_known (Some v) (Some w) P x e h =
     (w, refl, subst (λ v. P v w) same h)
 
 -- what was recorded of a tree and an `out` that are known
-pub record Wrote (script : Script) (result : Result ℕ RecordFault) (m : Store) (x : SinkContents) (before now : SinkState) (trees later : List TreeState) : Type 0 where
+pub record HasWritten (script : Script) (result : Result ℕ RecordFault) (m : Store) (x : SinkContents) (before now : SinkState) (trees later : List TreeState) : Type 0 where
   pub tree : Store
   pub held : held_tree later ≡ Some tree
   pub written : SinkContents
@@ -210,7 +210,7 @@ pub record Wrote (script : Script) (result : Result ℕ RecordFault) (m : Store)
   pub write : IsErrOf result fault.WriteFault → FaultCounted before now
 
 wrote_on : (script : Script) (result : Result ℕ RecordFault) (m : Store) (x : SinkContents) (before now : SinkState) (trees later : List TreeState) → held_tree trees ≡ Some m → before.contents ≡ Some x →
-    OfOnlyTree trees later (RecordsOnTree script result before now) → Wrote script result m x before now trees later
+    OfOnlyTree trees later (RecordsOnTree script result before now) → HasWritten script result m x before now trees later
 wrote_on script result m x before now [] later has known h = absurd h
 wrote_on script result m x before now (tree ∷ []) [] has known h = absurd h
 wrote_on script result m x before now (tree ∷ []) (next ∷ (more ∷ later)) has known h = absurd h
@@ -250,7 +250,7 @@ module _ (folder file : Operand) (before now : Outside) (status : ℕ) (script :
   no_end k e a b c (inr (inr s)) = c (sym e ∙ s)
 
   -- the script was carried out
-  carried : (result : Result ℕ RecordFault) → status ≡ recording_status folder.place file.place result → (w : Wrote script result m x before.out now.out before.trees now.trees) → Left w.written w.tree × Completed
+  carried : (result : Result ℕ RecordFault) → status ≡ recording_status folder.place file.place result → (w : HasWritten script result m x before.out now.out before.trees now.trees) → Left w.written w.tree × Completed
   carried (Ok number) e w =
       let z : status ≡ end_status run.end = e ∙ ap end_status (sym w.records.0) in
       (closed_left w.written w.tree z w.records.1.1, λ tree files out. inl z)
@@ -268,7 +268,7 @@ module _ (folder file : Operand) (before now : Outside) (status : ℕ) (script :
   carried (Err fault.Memory) e w =
       (open_left w.written w.tree (no_end 16 e (λ z. omega (arith, z)) (λ z. omega (arith, z)) (λ z. omega (arith, z))) w.records, λ tree files out. inr e)
 
-  pub carried_held : (result : Result ℕ RecordFault) → status ≡ recording_status folder.place file.place result → Wrote script result m x before.out now.out before.trees now.trees → RecordsHeld script m x before now status
+  pub carried_held : (result : Result ℕ RecordFault) → status ≡ recording_status folder.place file.place result → HasWritten script result m x before.out now.out before.trees now.trees → RecordsHeld script m x before now status
   carried_held result e w =
       let c = carried result e w in
       record { tree = w.tree; held = w.held; written = w.written; known = w.known; leaves = c.0; completes = c.1 }

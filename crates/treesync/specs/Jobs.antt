@@ -118,8 +118,8 @@ abbrev pub IsRefused : {X : Type 0} → Result X Refusal → Type 0
 IsRefused (Ok x) = ⊥
 IsRefused (Err r) = ⊤
 
--- What becomes of the trees of a job that finds its answer before it prints: they are as before, and that is no answer of `apply`; or its set was applied; or
--- they were looked at.
+-- What becomes of the trees of a job that finds its answer before it prints: they are as before, and that is no answer of
+-- `apply`; or its set was applied; or they were looked at.
 abbrev pub LeavesTrees : {X : Type 0} → Job → Option FileContents → Result X Refusal → List TreeState → List TreeState → Type 0
 LeavesTrees (Apply folder file) files result trees later = ((later ≡ trees) × IsRefused result) ⊎ AppliesFile file files result trees later
 LeavesTrees (Seal folder file) files result trees later = (later ≡ trees) ⊎ LooksAtOnly result trees later

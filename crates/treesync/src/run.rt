@@ -153,10 +153,11 @@ fn run_words<F: Files, O: Sink, E: Sink>(
 ///
 /// `words` are those after the program's name, and name files of `files`. On status 0 or 1 the job's whole text was
 /// written to `out`, which was flushed. After every other status but 4 `out` is as before, and after 4 it gained the
-/// first bytes of the text; so it did after 16 where memory ran out between the lines of a `conflicts`. On a refusal
-/// `err` gained its one line, or the first bytes of it where writing to `err` failed, which changes no status. What the
-/// files hold is as before, each file of the job was opened once at most, and no count of faults falls. Status 16 may
-/// come at any time. The words and the bytes under the names of `files` determine the right answer: there are never two.
+/// first bytes of the text; so it did after 16 where memory ran out between the lines of a `conflicts`. A `record` writes
+/// as it goes, and what it leaves is said below. On a refusal `err` gained its one line, or the first bytes of it where
+/// writing to `err` failed, which changes no status. What the files hold is as before, each file of the job was opened
+/// once at most, and no count of faults falls. Status 16 may come at any time. The words, the bytes under the names of
+/// `files` and what a tree holds determine the right answer: there are never two.
 ///
 /// Where some tree takes all logs of a `merge`, and they have what the rules name, it prints, unless memory runs out or
 /// a fault was counted, a set of the logs' net commands that fits every tree that takes them all and to which no
@@ -164,12 +165,19 @@ fn run_words<F: Files, O: Sink, E: Sink>(
 /// 0 a `conflicts` has found that no two net commands of its logs clash, and with 1 that some do.
 ///
 /// `trees` are those of the folders that the words name, in their order (`HasItsTrees`, which every clause asks for);
-/// only `seal` and `apply` have one, `seal` only looks at it, and every other job leaves them as they are. On a tree that
-/// is known, status 0 of `seal` means that the sealed list of its log was printed. Status 0 of `apply` means that the
-/// tree is the target of the set, and after each other status it is as before or ready for the same target, with nothing
-/// changed outside the set's nodes: so a run that was stopped between any two calls of the tree, and is run again, ends
-/// there. After the statuses 2, 3, 5, 6, 8, 9 and 12 the tree is as before. Status 10 or 11 comes only where the tree
-/// counted a fault or a denial.
+/// only `record`, `seal` and `apply` have one, `seal` only looks at it, and every other job leaves them as they are.
+///
+/// A `record` reads its script as any file, with nothing written or changed where that is refused. Then each command's
+/// line is on `out`, flushed, before its change is made. With the statuses 0, 12 and 15 the log has its end line, and the
+/// tree is the result of its commands: those of all operations, or of those before the one that is refused (15) or would
+/// take the log past its limits (12). After 4, 10, 11 and 16 `out` gained the first bytes of that log: its whole lines are
+/// those of what was done to the tree, but that the last of them may not be done.
+///
+/// On a tree that is known, status 0 of `seal` means that the sealed list of its log was printed. Status 0 of `apply`
+/// means that the tree is the target of the set, and after each other status it is as before or ready for the same
+/// target, with nothing changed outside the set's nodes: so a run that was stopped between any two calls of the tree, and
+/// is run again, ends there. After the statuses 2, 3, 5, 6, 8, 9 and 12 of these two the tree is as before. Status 10 or
+/// 11 comes only where the tree counted a fault or a denial.
 pub fn run<F: Files, O: Sink, E: Sink>(
     alloc: Global,
     words: &[String],

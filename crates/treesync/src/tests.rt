@@ -65,11 +65,10 @@ fn ran<F: Files>(
 /// The files `s` and `l1`; an empty text stands for a file that is not held.
 fn files_of(alloc: Global, s: &str, l1: &str, fails: &[u64]) -> Result<MemFiles, Fail> {
     let mut files = MemFiles::new(alloc, Vec::from_slice(alloc, fails)?);
-    if !s.is_empty() {
-        files.add("s", s.as_bytes())?;
-    }
-    if !l1.is_empty() {
-        files.add("l1", l1.as_bytes())?;
+    for (name, text) in [("s", s), ("l1", l1)] {
+        if !text.is_empty() {
+            files.add(name, text.as_bytes())?;
+        }
     }
     Ok(files)
 }
