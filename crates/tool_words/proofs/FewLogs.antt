@@ -7,14 +7,15 @@ use Rattle.std.specs.Str.Parse.{digits_value}
 use Rattle.std.proofs.lemmas.Bool.{leb-true}
 use Rattle.std.proofs.lemmas.Bool.Decides.{nat_tests}
 use Rattle.tool_words.specs.Commands.{commands, verb_in}
-use Rattle.tool_words.specs.Jobs.{command_job, is_help, job_of, operands_job, transition_of, drill_of}
+use Rattle.tool_words.specs.Jobs.{command_job, is_help, job_of, operands_job, transition_of, drill_of, rebase_of, side_of}
 use Rattle.tool_words.specs.Numbers.{number_between}
 use Rattle.tool_words.specs.Logs.{Parts, first_and_logs, first_logs, is_log_count, logs_of, parts_of, prefs_logs}
 use Rattle.tool_words.specs.Words.{Operand, Text, numbered, one_operand, plain_of, two_operands, three_operands, all_three_of}
 use Rattle.tool_words.specs.declared.commands.Verb.{Verb}
 use Rattle.tool_words.specs.declared.commands.Verb.TheVariants as verb
+use Rattle.tool_words.specs.declared.job.Side.{Side}
 use Rattle.tool_words.specs.declared.job.Job.{Job}
-use Rattle.tool_words.specs.declared.job.Job.TheVariants.{Help, Replay, Canon, Conflicts, Merge, Transition, Steer, Record, Seal, Apply, Drill}
+use Rattle.tool_words.specs.declared.job.Job.TheVariants.{Help, Replay, Canon, Conflicts, Merge, Transition, Steer, Record, Seal, Apply, Drill, Explain, Undo, Catchup, Rebase}
 use Rattle.tool_words.specs.LogCounts.{HasFewLogs}
 
 -- each job that there is has few logs
@@ -30,20 +31,27 @@ AllBetween low high (Some n) = (low ≤ n) × (n ≤ high)
 few_count : (n : ℕ) → is_log_count n ≡ true → n ≤ 64
 few_count n e = grind (arith, nat_tests)
 
-few_only : (plain : Option (List Operand)) → AllFew (option_map Conflicts (option_and_then logs_of plain))
-few_only None = tt
-few_only (Some logs) = here (is_log_count (length logs)) (few_count (length logs))
-  where
-    here : (b : Bool) → (b ≡ true → length logs ≤ 64) → AllFew (option_map Conflicts (if b then Some logs else None))
-    here true h = h refl
-    here false h = tt
+some_count : (n : ℕ) → is_log_count n ≡ true → 0 < n
+some_count n e = grind (arith, nat_tests)
 
-few_parts : (parts : Option Parts) → AllFew (option_map (λ (p : Parts). Merge p.0 p.1) (option_and_then (λ parts. option_map (λ logs. (parts.0, logs)) (logs_of parts.1)) parts))
-few_parts None = tt
-few_parts (Some parts) = here (is_log_count (length parts.1)) (few_count (length parts.1))
+-- of a job of logs alone
+few_only : (job : List Operand → Job) → ((logs : List Operand) → 0 < length logs → length logs ≤ 64 → HasFewLogs (job logs)) → (plain : Option (List Operand))
+    → AllFew (option_map job (option_and_then logs_of plain))
+few_only job few None = tt
+few_only job few (Some logs) = here (is_log_count (length logs)) (some_count (length logs)) (few_count (length logs))
   where
-    here : (b : Bool) → (b ≡ true → length parts.1 ≤ 64) → AllFew (option_map (λ (p : Parts). Merge p.0 p.1) (option_map (λ logs. (parts.0, logs)) (if b then Some parts.1 else None)))
-    here true h = h refl
+    here : (b : Bool) → (b ≡ true → 0 < length logs) → (b ≡ true → length logs ≤ 64) → AllFew (option_map job (if b then Some logs else None))
+    here true g h = few logs (g refl) (h refl)
+    here false g h = tt
+
+-- and of one of logs and rules
+few_parts : (job : Option Operand → List Operand → Job) → ((prefs : Option Operand) (logs : List Operand) → length logs ≤ 64 → HasFewLogs (job prefs logs)) → (parts : Option Parts)
+    → AllFew (option_map (λ (p : Parts). job p.0 p.1) (option_and_then (λ parts. option_map (λ logs. (parts.0, logs)) (logs_of parts.1)) parts))
+few_parts job few None = tt
+few_parts job few (Some parts) = here (is_log_count (length parts.1)) (few_count (length parts.1))
+  where
+    here : (b : Bool) → (b ≡ true → length parts.1 ≤ 64) → AllFew (option_map (λ (p : Parts). job p.0 p.1) (option_map (λ logs. (parts.0, logs)) (if b then Some parts.1 else None)))
+    here true h = few parts.0 parts.1 (h refl)
     here false h = tt
 
 few_first : (plain : Option (List Operand)) → AllFew (option_map (λ (pair : Operand × List Operand). Steer pair.0 pair.1) (option_and_then first_and_logs plain))
@@ -72,6 +80,23 @@ few_number (Some (prefs, first ∷ rest)) = here (is_log_count (length rest)) (f
     here true h =
         let n = digits_value 10 first.text in
         one_of (h refl) n (bytes_eq first.text (decimal n) && (nat_le 1 n && nat_le n (length rest))) (between n (bytes_eq first.text (decimal n)))
+    here false h = tt
+
+-- a rebase has the recorded work, and at least one set and at most 63
+few_rebase : (parts : Option Parts) → AllFew (option_and_then rebase_of (option_and_then (λ (p : Parts). option_map (λ (pair : Operand × List Operand). (p.0, pair.0, pair.1)) (first_and_logs p.1)) parts))
+few_rebase None = tt
+few_rebase (Some (prefs, [])) = tt
+few_rebase (Some (prefs, side ∷ [])) = tt
+few_rebase (Some (prefs, side ∷ work ∷ [])) = tt
+few_rebase (Some (prefs, side ∷ work ∷ set ∷ sets)) = here (is_log_count (length (work ∷ set ∷ sets))) (few_count (length (work ∷ set ∷ sets)))
+  where
+    on_side : length (work ∷ set ∷ sets) ≤ 64 → (found : Option Side) → AllFew (option_map (λ s. Rebase s prefs work (set ∷ sets)) found)
+    on_side few None = tt
+    on_side few (Some s) = (omega arith, omega (arith, few))
+
+    here : (b : Bool) → (b ≡ true → length (work ∷ set ∷ sets) ≤ 64)
+        → AllFew (option_and_then rebase_of (option_map (λ (pair : Operand × List Operand). (prefs, pair.0, pair.1)) (option_map (λ logs. (side, logs)) (if b then Some (work ∷ set ∷ sets) else None))))
+    here true h = on_side (h refl) (side_of side.text)
     here false h = tt
 
 -- of a job that has no logs by number
@@ -105,20 +130,24 @@ few_drill (Some (seed, logs, steps)) =
     here (Some s) None k a b c = tt
     here (Some s) (Some l) None a b c = tt
 
-few_one : (o : Option Operand) → AllFew (option_map Canon o)
-few_one None = tt
-few_one (Some log) = tt
+few_one : (job : Operand → Job) → ((a : Operand) → HasFewLogs (job a)) → (o : Option Operand) → AllFew (option_map job o)
+few_one job few None = tt
+few_one job few (Some a) = few a
 
 few_verb : (v : Verb) (operands : List Operand) → AllFew (operands_job v operands)
 few_verb verb.Replay operands = few_pair Replay (λ a b. tt) (two_operands operands)
-few_verb verb.Canon operands = few_one (one_operand operands)
-few_verb verb.Conflicts operands = few_only (plain_of operands)
-few_verb verb.Merge operands = few_parts (parts_of operands)
+few_verb verb.Canon operands = few_one Canon (λ a. tt) (one_operand operands)
+few_verb verb.Conflicts operands = few_only Conflicts (λ logs some few. few) (plain_of operands)
+few_verb verb.Merge operands = few_parts Merge (λ prefs logs few. few) (parts_of operands)
 few_verb verb.Transition operands = few_number (parts_of operands)
 few_verb verb.Steer operands = few_first (plain_of operands)
 few_verb verb.Record operands = few_pair Record (λ a b. tt) (two_operands operands)
 few_verb verb.Seal operands = few_pair Seal (λ a b. tt) (two_operands operands)
 few_verb verb.Drill operands = few_drill (three_operands operands)
+few_verb verb.Explain operands = few_parts Explain (λ prefs logs few. few) (parts_of operands)
+few_verb verb.Undo operands = few_one Undo (λ a. tt) (one_operand operands)
+few_verb verb.Catchup operands = few_only Catchup (λ sets some few. (some, few)) (plain_of operands)
+few_verb verb.Rebase operands = few_rebase (parts_of operands)
 few_verb verb.Apply operands = few_pair Apply (λ a b. tt) (two_operands operands)
 
 few_found : (v : Option Verb) (operands : List Operand) → AllFew (option_and_then (λ w. operands_job w operands) v)

@@ -11,12 +11,12 @@ use Rattle.tool_words.specs.Words.{Text, Operand, all_three_of, is_plain, number
 use Rattle.tool_words.specs.Logs.{first_logs, only_logs, prefs_first_logs, prefs_logs}
 use Rattle.tool_words.specs.Numbers.{number_between}
 use Rattle.tool_words.specs.Commands.{commands, verb_in}
-use Rattle.tool_words.specs.Jobs.{command_job, drill_of, is_help, operands_job, transition_of}
+use Rattle.tool_words.specs.Jobs.{command_job, drill_of, is_help, operands_job, rebase_of, side_of, transition_of}
 use Rattle.tool_words.specs.Trees.{asked_folders, folder_places, has_folder, job_folders, takes_folder}
 use Rattle.tool_words.specs.declared.commands.Verb.{Verb}
 use Rattle.tool_words.specs.declared.commands.Verb.TheVariants as verb
 use Rattle.tool_words.specs.declared.job.Job.{Job}
-use Rattle.tool_words.specs.declared.job.Job.TheVariants.{Help, Replay, Canon, Conflicts, Merge, Transition, Steer, Record, Seal, Apply, Drill}
+use Rattle.tool_words.specs.declared.job.Job.TheVariants.{Help, Replay, Canon, Conflicts, Merge, Transition, Steer, Record, Seal, Apply, Drill, Explain, Undo, Catchup, Rebase}
 use Rattle.tool_words.proofs.Places.{numbered_plain}
 
 -- a job that names no folder, made of what there is
@@ -33,6 +33,12 @@ of_drill None = refl
 of_drill (Some (seed, logs, steps)) =
     no_folder (λ (numbers : ℕ × ℕ × ℕ). Drill numbers.0 numbers.1 numbers.2) (λ numbers. refl)
     (all_three_of (number_between 0 2147483647 seed.text) (number_between 1 64 logs.text) (number_between 0 16384 steps.text))
+
+of_rebase : (found : Option (Option Operand × Operand × List Operand)) → asked_folders (option_and_then rebase_of found) ≡ []
+of_rebase None = refl
+of_rebase (Some (prefs, side, [])) = refl
+of_rebase (Some (prefs, side, work ∷ [])) = refl
+of_rebase (Some (prefs, side, work ∷ (set ∷ sets))) = no_folder (λ s. Rebase s prefs work (set ∷ sets)) (λ s. refl) (side_of side.text)
 
 -- the job of a command's operands
 abbrev job_for : Option Verb → List Operand → Option Job
@@ -51,6 +57,10 @@ takes_none (Some verb.Record) operands e = absurd (true≢false e)
 takes_none (Some verb.Seal) operands e = absurd (true≢false e)
 takes_none (Some verb.Apply) operands e = absurd (true≢false e)
 takes_none (Some verb.Drill) operands e = of_drill (three_operands operands)
+takes_none (Some verb.Explain) operands e = no_folder (λ (parts : Option Operand × List Operand). Explain parts.0 parts.1) (λ parts. refl) (prefs_logs operands)
+takes_none (Some verb.Undo) operands e = no_folder Undo (λ set. refl) (one_operand operands)
+takes_none (Some verb.Catchup) operands e = no_folder Catchup (λ sets. refl) (only_logs operands)
+takes_none (Some verb.Rebase) operands e = of_rebase (prefs_first_logs operands)
 
 -- and one that takes one names the first of its two operands
 abbrev first_in : Option (Operand × Operand) → List Operand
@@ -74,6 +84,10 @@ takes_first (Some verb.Record) operands e = first_folder Record (λ a b. refl) (
 takes_first (Some verb.Seal) operands e = first_folder Seal (λ a b. refl) (two_operands operands)
 takes_first (Some verb.Apply) operands e = first_folder Apply (λ a b. refl) (two_operands operands)
 takes_first (Some verb.Drill) operands e = absurd (true≢false (sym e))
+takes_first (Some verb.Explain) operands e = absurd (true≢false (sym e))
+takes_first (Some verb.Undo) operands e = absurd (true≢false (sym e))
+takes_first (Some verb.Catchup) operands e = absurd (true≢false (sym e))
+takes_first (Some verb.Rebase) operands e = absurd (true≢false (sym e))
 
 -- of operands that are not all plain there is no pair, and of two that are the pair
 no_pair : (words : List Text) → list_all is_plain words ≡ false → two_operands (numbered 1 words) ≡ None

@@ -3,16 +3,17 @@ use Rattle.std.proofs.Common.{◌≡◌, ◌∙◌, Bool, true, false, refl, sym
 use Rattle.std.specs.Option.{option_to_list}
 use Rattle.std.specs.List.{list_all}
 use Rattle.clap.proofs.WalkLemmas.{both}
-use Rattle.tool_words.specs.Words.{Text, Operand, operand_at, numbered, is_plain, plain_of, only_of, pair_of, two_operands, three_operands, all_three_of}
-use Rattle.tool_words.specs.Logs.{Parts, is_log_count, logs_of, first_and_logs, parts_of}
+use Rattle.tool_words.specs.Words.{Text, Operand, operand_at, numbered, is_plain, plain_of, only_of, pair_of, one_operand, two_operands, three_operands, all_three_of}
+use Rattle.tool_words.specs.Logs.{Parts, is_log_count, logs_of, first_and_logs, only_logs, parts_of, prefs_logs}
 use Rattle.tool_words.specs.Commands.{commands, verb_in}
-use Rattle.tool_words.specs.Jobs.{is_help, job_of, command_job, operands_job, transition_of, drill_of}
+use Rattle.tool_words.specs.Jobs.{is_help, job_of, command_job, operands_job, transition_of, drill_of, rebase_of, side_of}
 use Rattle.tool_words.specs.Numbers.{number_between}
 use Rattle.tool_words.specs.Operands.{AreInPlace, job_operands, operands_in, operand_text, text_at, word_at}
 use Rattle.tool_words.specs.declared.commands.Verb.{Verb}
 use Rattle.tool_words.specs.declared.commands.Verb.TheVariants as verb
+use Rattle.tool_words.specs.declared.job.Side.{Side}
 use Rattle.tool_words.specs.declared.job.Job.{Job}
-use Rattle.tool_words.specs.declared.job.Job.TheVariants.{Help, Replay, Canon, Conflicts, Merge, Transition, Steer, Record, Seal, Apply, Drill}
+use Rattle.tool_words.specs.declared.job.Job.TheVariants.{Help, Replay, Canon, Conflicts, Merge, Transition, Steer, Record, Seal, Apply, Drill, Explain, Undo, Catchup, Rebase}
 use Rattle.tool_words.proofs.Places.{numbered_plain}
 use Rattle.tool_words.proofs.Walks.{is_not}
 use Rattle.tool_words.proofs.PrefsOption.{IsPlainFile, Opening, Parted, equals, parted, placed, plain, skipped, spelled, word}
@@ -100,28 +101,36 @@ two_in_place job is name words =
         subst (AreInPlace (name ∷ a ∷ b ∷ [])) (sym (is (operand_at 1 a) (operand_at 2 b))) (from_place (name ∷ a ∷ b ∷ []) 1 (a ∷ b ∷ []) refl all)
     pair (a ∷ b ∷ c ∷ rest) all = tt
 
-canon_in_place : (name : Text) (words : List Text) → AreInPlace (name ∷ words) (operands_in (operands_job verb.Canon (numbered 1 words)))
-canon_in_place name words =
-    of_plain words (λ them. AreInPlace (name ∷ words) (operands_in (option_map Canon (option_and_then only_of them)))) (only words) tt
+-- a job of one operand, which it names
+one_in_place : (job : Operand → Job) → ((a : Operand) → job_operands (job a) ≡ a ∷ []) → (name : Text) (words : List Text)
+    → AreInPlace (name ∷ words) (operands_in (option_map job (one_operand (numbered 1 words))))
+one_in_place job is name words =
+    of_plain words (λ them. AreInPlace (name ∷ words) (operands_in (option_map job (option_and_then only_of them)))) (only words) tt
   where
-    only : (words : List Text) → list_all is_plain words ≡ true → AreInPlace (name ∷ words) (operands_in (option_map Canon (only_of (numbered 1 words))))
+    only : (words : List Text) → list_all is_plain words ≡ true → AreInPlace (name ∷ words) (operands_in (option_map job (only_of (numbered 1 words))))
     only [] all = tt
-    only (a ∷ []) all = from_place (name ∷ a ∷ []) 1 (a ∷ []) refl all
+    only (a ∷ []) all = subst (AreInPlace (name ∷ a ∷ [])) (sym (is (operand_at 1 a))) (from_place (name ∷ a ∷ []) 1 (a ∷ []) refl all)
     only (a ∷ b ∷ rest) all = tt
 
-conflicts_in_place : (name : Text) (words : List Text) → AreInPlace (name ∷ words) (operands_in (operands_job verb.Conflicts (numbered 1 words)))
-conflicts_in_place name words =
-    of_plain words (λ them. AreInPlace (name ∷ words) (operands_in (option_map Conflicts (option_and_then logs_of them))))
-    (λ all. of_logs (numbered 1 words) (λ logs. AreInPlace (name ∷ words) (operands_in (option_map Conflicts logs)))
-    (from_place (name ∷ words) 1 words refl all) tt) tt
+-- a job of logs alone
+logs_in_place : (job : List Operand → Job) → ((logs : List Operand) → job_operands (job logs) ≡ logs) → (name : Text) (words : List Text)
+    → AreInPlace (name ∷ words) (operands_in (option_map job (only_logs (numbered 1 words))))
+logs_in_place job is name words =
+    of_plain words (λ them. AreInPlace (name ∷ words) (operands_in (option_map job (option_and_then logs_of them))))
+    (λ all. of_logs (numbered 1 words) (λ logs. AreInPlace (name ∷ words) (operands_in (option_map job logs)))
+    (subst (AreInPlace (name ∷ words)) (sym (is (numbered 1 words))) (from_place (name ∷ words) 1 words refl all)) tt) tt
 
-merge_in_place : (name : Text) (words : List Text) → AreInPlace (name ∷ words) (operands_in (operands_job verb.Merge (numbered 1 words)))
-merge_in_place name words =
+-- a job of logs, and of a file of rules where there is one
+prefs_in_place : (job : Option Operand → List Operand → Job) → ((prefs : Option Operand) (logs : List Operand) → job_operands (job prefs logs) ≡ option_to_list prefs ++ logs)
+    → (name : Text) (words : List Text)
+    → AreInPlace (name ∷ words) (operands_in (option_map (λ (p : Parts). job p.0 p.1) (prefs_logs (numbered 1 words))))
+prefs_in_place job is name words =
     of_parts words
-    (λ parts. AreInPlace (name ∷ words) (operands_in (option_map (λ (p : Parts). Merge p.0 p.1) (option_and_then (λ (p : Parts). option_map (λ logs. (p.0, logs)) (logs_of p.1)) parts))))
+    (λ parts. AreInPlace (name ∷ words) (operands_in (option_map (λ (p : Parts). job p.0 p.1) (option_and_then (λ (p : Parts). option_map (λ logs. (p.0, logs)) (logs_of p.1)) parts))))
     (λ p. of_logs (numbered (suc (skipped p.opening)) p.rest)
-    (λ logs. AreInPlace (name ∷ words) (operands_in (option_map (λ (p : Parts). Merge p.0 p.1) (option_map (λ logs. (placed p.opening, logs)) logs))))
-    (file_in_place name p.opening p.rest words _ p.spelt p.file (rest_in_place name p.opening p.rest words p.spelt p.all)) tt) tt
+    (λ logs. AreInPlace (name ∷ words) (operands_in (option_map (λ (p : Parts). job p.0 p.1) (option_map (λ logs. (placed p.opening, logs)) logs))))
+    (subst (AreInPlace (name ∷ words)) (sym (is (placed p.opening) (numbered (suc (skipped p.opening)) p.rest)))
+    (file_in_place name p.opening p.rest words _ p.spelt p.file (rest_in_place name p.opening p.rest words p.spelt p.all))) tt) tt
 
 transition_in_place : (name : Text) (words : List Text) → AreInPlace (name ∷ words) (operands_in (operands_job verb.Transition (numbered 1 words)))
 transition_in_place name words =
@@ -144,6 +153,30 @@ transition_in_place name words =
             → AreInPlace (name ∷ words) (operands_in (option_map (λ n. Transition n (placed o) (numbered (suc (suc (skipped o))) rest)) n))
         of_number None = tt
         of_number (Some n) = file_in_place name o (a ∷ rest) words _ is h all.1
+
+rebase_in_place : (name : Text) (words : List Text) → AreInPlace (name ∷ words) (operands_in (operands_job verb.Rebase (numbered 1 words)))
+rebase_in_place name words =
+    of_parts words
+    (λ parts. AreInPlace (name ∷ words)
+    (operands_in (option_and_then rebase_of (option_and_then (λ (p : Parts). option_map (λ pair. (p.0, pair.0, pair.1)) (first_and_logs p.1)) parts))))
+    (λ p. by p.opening p.rest (rest_in_place name p.opening p.rest words p.spelt p.all) p.spelt p.file) tt
+  where
+    by : (o : Opening) (rest : List Text) → AreInPlace (name ∷ words) (numbered (suc (skipped o)) rest) → spelled o rest ≡ words → IsPlainFile o
+        → AreInPlace (name ∷ words)
+        (operands_in (option_and_then rebase_of (option_map (λ pair. (placed o, pair.0, pair.1)) (first_and_logs (numbered (suc (skipped o)) rest)))))
+    by o [] all is h = tt
+    by o (a ∷ []) all is h = tt
+    by o (a ∷ w ∷ []) all is h = tt
+    by o (a ∷ w ∷ s ∷ rest) all is h =
+        of_logs (numbered (suc (suc (skipped o))) (w ∷ s ∷ rest))
+        (λ logs. AreInPlace (name ∷ words) (operands_in (option_and_then rebase_of
+        (option_map (λ (pair : Operand × List Operand). (placed o, pair.0, pair.1)) (option_map (λ logs. (operand_at (suc (skipped o)) a, logs)) logs)))))
+        (of_side (side_of a)) tt
+      where
+        of_side : (found : Option Side) → AreInPlace (name ∷ words)
+            (operands_in (option_map (λ n. Rebase n (placed o) (operand_at (suc (suc (skipped o))) w) (numbered (suc (suc (suc (skipped o)))) (s ∷ rest))) found))
+        of_side None = tt
+        of_side (Some n) = file_in_place name o (a ∷ w ∷ s ∷ rest) words _ is h all.1
 
 steer_in_place : (name : Text) (words : List Text) → AreInPlace (name ∷ words) (operands_in (operands_job verb.Steer (numbered 1 words)))
 steer_in_place name words =
@@ -170,14 +203,18 @@ in_place : (verb : Option Verb) (name : Text) (words : List Text)
     → AreInPlace (name ∷ words) (operands_in (option_and_then (λ verb. operands_job verb (numbered 1 words)) verb))
 in_place None name words = tt
 in_place (Some verb.Replay) name words = two_in_place Replay (λ a b. refl) name words
-in_place (Some verb.Canon) name words = canon_in_place name words
-in_place (Some verb.Conflicts) name words = conflicts_in_place name words
-in_place (Some verb.Merge) name words = merge_in_place name words
+in_place (Some verb.Canon) name words = one_in_place Canon (λ log. refl) name words
+in_place (Some verb.Conflicts) name words = logs_in_place Conflicts (λ logs. refl) name words
+in_place (Some verb.Merge) name words = prefs_in_place Merge (λ prefs logs. refl) name words
 in_place (Some verb.Transition) name words = transition_in_place name words
 in_place (Some verb.Steer) name words = steer_in_place name words
 in_place (Some verb.Record) name words = two_in_place Record (λ a b. refl) name words
 in_place (Some verb.Seal) name words = two_in_place Seal (λ a b. refl) name words
 in_place (Some verb.Drill) name words = drill_in_place (name ∷ words) (three_operands (numbered 1 words))
+in_place (Some verb.Explain) name words = prefs_in_place Explain (λ prefs logs. refl) name words
+in_place (Some verb.Undo) name words = one_in_place Undo (λ set. refl) name words
+in_place (Some verb.Catchup) name words = logs_in_place Catchup (λ sets. refl) name words
+in_place (Some verb.Rebase) name words = rebase_in_place name words
 in_place (Some verb.Apply) name words = two_in_place Apply (λ a b. refl) name words
 
 command_in_place : (words : List Text) → AreInPlace words (operands_in (command_job (numbered 0 words)))

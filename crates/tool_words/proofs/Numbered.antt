@@ -49,6 +49,30 @@ file_at first words at d h =
     at_from first 0 words at (first + at) d refl h
     ∙ ap (λ n. Some (operand (string_bytes (get_or words (first + at) d)) n)) (let e : 0 + (first + at) ≡ first + at = omega arith in e)
 
+-- the operands from one on are that one and those after it
+split_from : (first place : ℕ) (words : List (String Global)) (d : String Global) → first < length words
+    → drop first (numbered place (texts_of words)) ≡ operand (string_bytes (get_or words first d)) (place + first) ∷ drop (suc first) (numbered place (texts_of words))
+split_from first place [] d h = absurd (omega (arith, h))
+split_from zero place (word ∷ words) d h = ap (λ n. operand (string_bytes word) n ∷ numbered (suc place) (texts_of words)) (let e : place ≡ place + 0 = omega arith in e)
+split_from (suc first) place (word ∷ words) d h =
+    split_from first (suc place) words d (omega (arith, h))
+    ∙ ap (λ n. operand (string_bytes (get_or words first d)) n ∷ drop (suc first) (numbered (suc place) (texts_of words))) (let e : suc place + first ≡ place + suc first = omega arith in e)
+
+pub split_at : (first : ℕ) (words : List (String Global)) (d : String Global) → first < length words
+    → drop first (numbered 0 (texts_of words)) ≡ operand (string_bytes (get_or words first d)) first ∷ drop (first + 1) (numbered 0 (texts_of words))
+split_at first words d h =
+    split_from first 0 words d h
+    ∙ ap (λ n. operand (string_bytes (get_or words first d)) n ∷ drop (suc first) (numbered 0 (texts_of words))) (let e : 0 + first ≡ first = omega arith in e)
+    ∙ ap (λ n. operand (string_bytes (get_or words first d)) first ∷ drop n (numbered 0 (texts_of words))) (let e : suc first ≡ first + 1 = omega arith in e)
+
+-- and past the last word there are none
+pub none_from : (words : List (String Global)) → drop (length words) (numbered 0 (texts_of words)) ≡ []
+none_from words = by (drop (length words) (numbered 0 (texts_of words))) (let e : length (drop (length words) (numbered 0 (texts_of words))) ≡ 0 = rest_length (length words) words ∙ omega arith in e)
+  where
+    by : (operands : List Operand) → length operands ≡ 0 → operands ≡ []
+    by [] e = refl
+    by (x ∷ xs) e = absurd (omega (arith, e))
+
 -- its place alone
 pub file_place_at : (first : ℕ) (words : List (String Global)) (at : ℕ) → first + at < length words
     → option_map (λ (file : Operand). file.place) (slice_get (drop first (numbered 0 (texts_of words))) at) ≡ Some (first + at)

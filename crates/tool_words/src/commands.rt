@@ -22,6 +22,10 @@ pub(crate) enum Verb {
     Seal,
     Apply,
     Drill,
+    Explain,
+    Undo,
+    Catchup,
+    Rebase,
 }
 
 /// What a command does, its name, and its operands as the help shows them.
@@ -33,7 +37,7 @@ pub(crate) struct CommandShape {
 }
 
 /// The commands that are built, in the order of the help.
-pub(crate) const COMMANDS: [CommandShape; 10] = [
+pub(crate) const COMMANDS: [CommandShape; 14] = [
     CommandShape {
         verb: Verb::Replay,
         name: "replay",
@@ -83,6 +87,26 @@ pub(crate) const COMMANDS: [CommandShape; 10] = [
         verb: Verb::Drill,
         name: "drill",
         operands: "SEED LOGS STEPS",
+    },
+    CommandShape {
+        verb: Verb::Explain,
+        name: "explain",
+        operands: "[--prefs FILE] LOG...",
+    },
+    CommandShape {
+        verb: Verb::Undo,
+        name: "undo",
+        operands: "SET",
+    },
+    CommandShape {
+        verb: Verb::Catchup,
+        name: "catchup",
+        operands: "SET...",
+    },
+    CommandShape {
+        verb: Verb::Rebase,
+        name: "rebase",
+        operands: "[--prefs FILE] SIDE WORK SET...",
     },
 ];
 

@@ -1,8 +1,9 @@
 //! The operands at the end of the words, as a list that borrows the words and copies nothing.
 
-ghost use Rattle.std.specs.Prelude.{◌≡◌, ◌<◌, ◌≤◌, ◌+◌, Some, length, drop, option_map, slice_get};
+ghost use Rattle.std.specs.Prelude.{◌≡◌, ◌<◌, ◌≤◌, ◌+◌, ◌∷◌, [], IfNone, IfSome, Some, length, drop, option_map, slice_get};
 ghost use Rattle.tool_words.specs.Words.{texts_of, numbered, places_of, first_place};
 
+use crate::job::Word;
 use std::marker::Model;
 
 /// The operands from one word on to the last: each a word, with the place of that word.
@@ -30,6 +31,18 @@ impl<'a> FileList<'a> {
         ensures { result ≡ drop first (numbered 0 (texts_of words.entry.now)) }
     {
         FileList { words, first }
+    }
+
+    /// The first operand, and those that follow it; None where there is none.
+    pub(crate) fn split_first(self) -> Option<(Word<'a>, FileList<'a>)>
+        ensures some { IfSome result (λ pair. self.entry ≡ pair.0 ∷ pair.1) }
+        ensures none { IfNone result (self.entry ≡ []) }
+    {
+        if self.first == self.words.len() {
+            return None;
+        }
+        let word = Word::new(self.words[self.first].as_str(), self.first);
+        Some((word, FileList::new(self.words, self.first + 1)))
     }
 
     /// How many operands there are.

@@ -48,6 +48,15 @@ impl<'a> Word<'a> {
     }
 }
 
+/// Which of its two transitions a rebase prints.
+#[derive(Clone, Copy, Debug, PartialEq, Eq)]
+pub enum Side {
+    /// That of the recorded work, for the live tree.
+    Tree,
+    /// That of the sets, which is handed in as a log of the next round.
+    Next,
+}
+
 /// What the words ask for: a command with the operands that it names, in the order of the words.
 #[derive(Debug, Drop)]
 pub enum Job<'a> {
@@ -108,6 +117,28 @@ pub enum Job<'a> {
         seed: u32,
         logs: u32,
         steps: u32,
+    },
+    /// Print why each command that the first merger of the logs leaves out cannot be kept beside
+    /// it, under the rules of the file `prefs` or under none.
+    Explain {
+        prefs: Option<Word<'a>>,
+        logs: FileList<'a>,
+    },
+    /// Print what leads back from the net set of the log in the file `set`.
+    Undo {
+        set: Word<'a>,
+    },
+    /// Print one set that does what the sets do one after another.
+    Catchup {
+        sets: FileList<'a>,
+    },
+    /// Join what was recorded in the file `work` with what the sets do one after another, and print
+    /// what leads from one side to the merger, under the rules of the file `prefs` or under none.
+    Rebase {
+        side: Side,
+        prefs: Option<Word<'a>>,
+        work: Word<'a>,
+        sets: FileList<'a>,
     },
 }
 

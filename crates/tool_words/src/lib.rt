@@ -19,7 +19,7 @@ mod trees;
 
 pub use self::commands::help;
 pub use self::file_list::FileList;
-pub use self::job::{Job, Word, WordFault};
+pub use self::job::{Job, Side, Word, WordFault};
 pub use self::operand_words::operand_text;
 pub use self::read::read_words;
 pub use self::trees::{first_tree_word, trees_wanted};

@@ -3,11 +3,11 @@
 ghost use Rattle.std.specs.Prelude.{◌≡◌, IfOk, IsErrOf, Some, None, option_and_then};
 ghost use Rattle.tool_words.specs.declared.job.WordFault.TheVariants.{Refused};
 ghost use Rattle.tool_words.specs.Words.{texts_of, operands_of, three_operands};
-ghost use Rattle.tool_words.specs.Jobs.{job_of, operands_job, is_help, transition_of, drill_of};
+ghost use Rattle.tool_words.specs.Jobs.{job_of, operands_job, is_help, transition_of, drill_of, rebase_of, side_of};
 ghost use Rattle.tool_words.specs.Logs.{prefs_first_logs};
 
 use crate::commands::{Verb, verb_of};
-use crate::job::{Job, WordFault};
+use crate::job::{Job, Side, WordFault};
 use crate::logs::{first_and_logs, only_logs, prefs_and_logs, prefs_first_and_logs};
 use crate::numbers::read_number;
 use crate::operands::{one_operand, three_operands, two_operands};
@@ -71,6 +71,39 @@ fn read_drill<'a>(alloc: Global, name: &'a str, words: &'a [String]) -> Result<J
     }
 }
 
+/// The side that a rebase prints, by its name.
+fn read_side(name: &str) -> Option<Side>
+    ensures { result ≡ side_of name.now }
+{
+    match name {
+        "tree" => Some(Side::Tree),
+        "next" => Some(Side::Next),
+        _ => None,
+    }
+}
+
+/// The job of the operands of `rebase`: a side, the recorded work and at least one set.
+fn read_rebase<'a>(alloc: Global, name: &'a str, words: &'a [String]) -> Result<Job<'a>, WordFault>
+    ensures ok { IfOk result (λ job. option_and_then rebase_of
+        (prefs_first_logs (operands_of words.entry.now)) ≡ Some job) }
+    ensures refused { IsErrOf result Refused → option_and_then rebase_of
+        (prefs_first_logs (operands_of words.entry.now)) ≡ None }
+{
+    let (prefs, first, logs) = prefs_first_and_logs(alloc, name, words)?;
+    let (Some(side), Some((work, sets))) = (read_side(first.as_str()), logs.split_first()) else {
+        return Err(WordFault::Refused);
+    };
+    if sets.len() == 0 {
+        return Err(WordFault::Refused);
+    }
+    Ok(Job::Rebase {
+        side,
+        prefs,
+        work,
+        sets,
+    })
+}
+
 /// The job of a command's operands, which follow its name in the words.
 fn read_operands<'a>(
     alloc: Global,
@@ -118,14 +151,27 @@ fn read_operands<'a>(
         }
         Verb::Drill => read_drill(alloc, name, words),
         Verb::Transition => read_transition(alloc, name, words),
+        Verb::Explain => {
+            let (prefs, logs) = prefs_and_logs(alloc, name, words)?;
+            Ok(Job::Explain { prefs, logs })
+        }
+        Verb::Undo => {
+            let set = one_operand(alloc, name, words)?;
+            Ok(Job::Undo { set })
+        }
+        Verb::Catchup => {
+            let sets = only_logs(alloc, name, words)?;
+            Ok(Job::Catchup { sets })
+        }
+        Verb::Rebase => read_rebase(alloc, name, words),
     }
 }
 
 /// The job that the words ask for; `words` are the program's arguments, the command first.
 ///
 /// `help` or `--help` alone is the help. Any other words are the name of a command that is built,
-/// and the operands that the help lists for it, no more and no fewer, where LOG... is one log to
-/// 64. `--prefs FILE` or `--prefs=FILE` may stand right after a command that the help shows it
+/// and the operands that the help lists for it, no more and no fewer, where LOG... and SET... are
+/// one file to 64, and in `rebase` to 63; its SIDE is `tree` or `next`. `--prefs FILE` or `--prefs=FILE` may stand right after a command that the help shows it
 /// for. FILE and each operand is not empty and does not begin with a dash. Refused comes only where
 /// the words are no such job, and is the answer to all such words but where memory ran out.
 pub fn read_words<'a>(alloc: Global, words: &'a [String]) -> Result<Job<'a>, WordFault>

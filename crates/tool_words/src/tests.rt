@@ -1,7 +1,8 @@
 //! Words of the commands that are built.
 
 use crate::{
-    FileList, Job, Word, WordFault, first_tree_word, help, operand_text, read_words, trees_wanted,
+    FileList, Job, Side, Word, WordFault, first_tree_word, help, operand_text, read_words,
+    trees_wanted,
 };
 use std::alloc::{AllocError, Global};
 
@@ -41,6 +42,13 @@ fn logs_text(alloc: Global, logs: &FileList) -> Result<String, AllocError> {
         logs.place(last),
         logs.name(last)
     )
+}
+
+fn side_text(side: &Side) -> &'static str {
+    match side {
+        Side::Tree => "tree",
+        Side::Next => "next",
+    }
 }
 
 /// The job of a line's words: its command, and each operand with its place.
@@ -91,6 +99,30 @@ fn job_text(alloc: Global, line: &str) -> Result<String, AllocError> {
             format!(in alloc; "apply {folder} {set}")
         }
         Ok(Job::Drill { seed, logs, steps }) => { format!(in alloc; "drill {seed} {logs} {steps}") }
+        Ok(Job::Explain { prefs, logs }) => {
+            let (prefs, logs) = (prefs_text(alloc, prefs)?, logs_text(alloc, logs)?);
+            format!(in alloc; "explain {prefs}{logs}")
+        }
+        Ok(Job::Undo { set }) => {
+            let set = word_text(alloc, set)?;
+            format!(in alloc; "undo {set}")
+        }
+        Ok(Job::Catchup { sets }) => {
+            let sets = logs_text(alloc, sets)?;
+            format!(in alloc; "catchup {sets}")
+        }
+        Ok(
+            Job::Rebase {
+                side,
+                prefs,
+                work,
+                sets,
+            },
+        ) => {
+            let (prefs, work) = (prefs_text(alloc, prefs)?, word_text(alloc, work)?);
+            let (side, sets) = (side_text(side), logs_text(alloc, sets)?);
+            format!(in alloc; "rebase {prefs}{side} {work} {sets}")
+        }
         Err(WordFault::Refused) => String::from_str(alloc, "refused"),
         Err(WordFault::Memory) => String::from_str(alloc, "out of memory"),
     }
@@ -105,7 +137,7 @@ fn count_folders(job: &str) -> usize {
     }
 }
 
-const CASES: [(&str, &str); 59] = [
+const CASES: [(&str, &str); 72] = [
     ("help", "help"),
     ("--help", "help"),
     ("replay s l1", "replay 1=s 2=l1"),
@@ -134,6 +166,15 @@ const CASES: [(&str, &str); 59] = [
     ("drill 0 1 0", "drill 0 1 0"),
     ("record w c", "record 1=w 2=c"),
     ("seal w l", "seal 1=w 2=l"),
+    ("explain l1 l2", "explain 2: 1=l1 2=l2"),
+    ("explain --prefs p l1", "explain 2=p 1: 3=l1 3=l1"),
+    ("undo m", "undo 1=m"),
+    ("catchup m1 m2", "catchup 2: 1=m1 2=m2"),
+    ("rebase tree w1 m", "rebase tree 2=w1 1: 3=m 3=m"),
+    (
+        "rebase --prefs=p next w1 m1 m2",
+        "rebase 1=p next 3=w1 2: 4=m1 5=m2",
+    ),
     ("", "refused"),
     ("frob", "refused"),
     ("replay s", "refused"),
@@ -171,6 +212,13 @@ const CASES: [(&str, &str); 59] = [
     ("seal w", "refused"),
     ("steer m", "refused"),
     ("steer --prefs=p m l1", "refused"),
+    ("explain", "refused"),
+    ("undo", "refused"),
+    ("undo m1 m2", "refused"),
+    ("catchup --prefs=p m", "refused"),
+    ("rebase both w1 m", "refused"),
+    ("rebase tree w1", "refused"),
+    ("rebase --prefs=p tree -w m", "refused"),
 ];
 
 #[test]
@@ -203,6 +251,6 @@ fn jobs_are_read(rt: HostRuntime) -> Result<(), AllocError> {
 fn the_help_has_a_line_for_each_command(rt: HostRuntime) {
     let text = help(rt.alloc()).expect(&rt, "memory");
     let wanted =
-        "usage: treesync COMMAND WORDS\n  replay SNAP LOG\n  canon LOG\n  conflicts LOG...\n  merge [--prefs FILE] LOG...\n  transition [--prefs FILE] N LOG...\n  steer SET LOG...\n  record FOLDER SCRIPT\n  seal FOLDER LOG\n  apply FOLDER SET\n  drill SEED LOGS STEPS\n";
+        "usage: treesync COMMAND WORDS\n  replay SNAP LOG\n  canon LOG\n  conflicts LOG...\n  merge [--prefs FILE] LOG...\n  transition [--prefs FILE] N LOG...\n  steer SET LOG...\n  record FOLDER SCRIPT\n  seal FOLDER LOG\n  apply FOLDER SET\n  drill SEED LOGS STEPS\n  explain [--prefs FILE] LOG...\n  undo SET\n  catchup SET...\n  rebase [--prefs FILE] SIDE WORK SET...\n";
     assert_eq!(rt; text.as_slice(), wanted.as_bytes());
 }
