@@ -21,6 +21,8 @@ mod ports;
 #[cfg(test)]
 mod preferences;
 #[cfg(test)]
+mod reasons;
+#[cfg(test)]
 mod sums;
 #[cfg(test)]
 mod texts;

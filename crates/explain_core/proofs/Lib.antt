@@ -1,0 +1,14 @@
+pub mod ChainLaws
+pub mod FirstChains
+pub mod ChainNodes
+pub mod Placing
+pub mod Leading
+pub mod Climbing
+pub mod Finding
+pub mod Listing
+pub mod Deciding
+pub mod Testing
+pub mod Barred
+pub mod FirstFound
+pub mod Explaining
+pub mod CallerLemmas

@@ -1,0 +1,6 @@
+pub mod Chains
+pub mod Demands
+pub mod FirstChains
+pub mod Nexts
+pub mod Reasons
+pub mod Walks

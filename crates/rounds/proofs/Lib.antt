@@ -1,0 +1,9 @@
+pub mod Undoing
+pub mod Composed
+pub mod Stopping
+pub mod Within
+pub mod Adding
+pub mod Ranked
+pub mod Rebased
+pub mod Sides
+pub mod CallerLemmas

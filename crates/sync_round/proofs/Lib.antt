@@ -1,0 +1,6 @@
+pub mod Steps
+pub mod RoundLaws
+pub mod Trees
+pub mod Walks
+pub mod KnownRounds
+pub mod CallerLemmas

@@ -1,0 +1,5 @@
+pub mod Rounds
+pub mod Faults
+pub mod Rounding
+pub mod KnownRounds
+pub mod Walking
