@@ -4,7 +4,7 @@ _treesync() {
   local word=${COMP_WORDS[COMP_CWORD]} place=$((COMP_CWORD - 2)) shape=() kind
   COMPREPLY=()
   if [ "$COMP_CWORD" -eq 1 ]; then
-    mapfile -t COMPREPLY < <(compgen -W "replay canon conflicts merge transition steer record seal apply drill help" -- "$word")
+    mapfile -t COMPREPLY < <(compgen -W "replay canon conflicts merge transition steer record seal apply drill sync explain undo catchup rebase help" -- "$word")
     return
   fi
   case ${COMP_WORDS[1]} in
@@ -18,6 +18,11 @@ _treesync() {
     seal) shape=(folder file) ;;
     apply) shape=(folder file) ;;
     drill) shape=(number number number) ;;
+    sync) shape=(prefs number file ...) ;;
+    explain) shape=(prefs file ...) ;;
+    undo) shape=(file) ;;
+    catchup) shape=(file ...) ;;
+    rebase) shape=(prefs side file file ...) ;;
     *) return ;;
   esac
   if [ "${shape[0]-}" = prefs ]; then
@@ -41,6 +46,7 @@ _treesync() {
   case $kind in
     file) mapfile -t COMPREPLY < <(compgen -f -- "$word") ;;
     folder) mapfile -t COMPREPLY < <(compgen -d -- "$word") ;;
+    side) mapfile -t COMPREPLY < <(compgen -W "tree next" -- "$word") ;;
   esac
 }
 complete -o filenames -F _treesync treesync

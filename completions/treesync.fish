@@ -11,6 +11,11 @@ complete -c treesync -n __fish_use_subcommand -a record -d 'FOLDER SCRIPT'
 complete -c treesync -n __fish_use_subcommand -a seal -d 'FOLDER LOG'
 complete -c treesync -n __fish_use_subcommand -a apply -d 'FOLDER SET'
 complete -c treesync -n __fish_use_subcommand -a drill -d 'SEED LOGS STEPS'
+complete -c treesync -n __fish_use_subcommand -a sync -d '[--prefs FILE] K FOLDER... LOG...'
+complete -c treesync -n __fish_use_subcommand -a explain -d '[--prefs FILE] LOG...'
+complete -c treesync -n __fish_use_subcommand -a undo -d 'SET'
+complete -c treesync -n __fish_use_subcommand -a catchup -d 'SET...'
+complete -c treesync -n __fish_use_subcommand -a rebase -d '[--prefs FILE] SIDE WORK SET...'
 complete -c treesync -n __fish_use_subcommand -a help -d 'the commands'
 complete -c treesync -n '__fish_seen_subcommand_from replay; and test (count (commandline -opc)) -ge 2 -a (count (commandline -opc)) -le 2' -F
 complete -c treesync -n '__fish_seen_subcommand_from replay; and test (count (commandline -opc)) -ge 3 -a (count (commandline -opc)) -le 3' -F
@@ -28,3 +33,13 @@ complete -c treesync -n '__fish_seen_subcommand_from seal; and test (count (comm
 complete -c treesync -n '__fish_seen_subcommand_from seal; and test (count (commandline -opc)) -ge 3 -a (count (commandline -opc)) -le 3' -F
 complete -c treesync -n '__fish_seen_subcommand_from apply; and test (count (commandline -opc)) -ge 2 -a (count (commandline -opc)) -le 2' -a '(__fish_complete_directories)'
 complete -c treesync -n '__fish_seen_subcommand_from apply; and test (count (commandline -opc)) -ge 3 -a (count (commandline -opc)) -le 3' -F
+complete -c treesync -n '__fish_seen_subcommand_from sync; and test (count (commandline -opc)) -eq 2' -l prefs -r -F
+complete -c treesync -n '__fish_seen_subcommand_from sync; and test (count (commandline -opc)) -ge 3' -F
+complete -c treesync -n '__fish_seen_subcommand_from explain; and test (count (commandline -opc)) -eq 2' -l prefs -r -F
+complete -c treesync -n '__fish_seen_subcommand_from explain; and test (count (commandline -opc)) -ge 2' -F
+complete -c treesync -n '__fish_seen_subcommand_from undo; and test (count (commandline -opc)) -ge 2 -a (count (commandline -opc)) -le 2' -F
+complete -c treesync -n '__fish_seen_subcommand_from catchup; and test (count (commandline -opc)) -ge 2' -F
+complete -c treesync -n '__fish_seen_subcommand_from rebase; and test (count (commandline -opc)) -eq 2' -l prefs -r -F
+complete -c treesync -n '__fish_seen_subcommand_from rebase; and test (count (commandline -opc)) -ge 2 -a (count (commandline -opc)) -le 4' -a 'tree next'
+complete -c treesync -n '__fish_seen_subcommand_from rebase; and test (count (commandline -opc)) -ge 3 -a (count (commandline -opc)) -le 5' -F
+complete -c treesync -n '__fish_seen_subcommand_from rebase; and test (count (commandline -opc)) -ge 4' -F

@@ -1,21 +1,23 @@
 -- A job of words has at most 64 logs, and a number that it gives is that of one of them.
-use Rattle.std.proofs.Common.{◌≡◌, ◌&&◌, ◌<◌, ◌≤◌, Bool, true, false, nat_le, ℕ, List, [], ◌∷◌, length, Option, None, Some, refl, sym, subst, arith, if◌then◌else◌}
+use Rattle.std.proofs.Common.{◌≡◌, ◌∙◌, ◌&&◌, ◌==◌, ◌+◌, ◌<◌, ◌≤◌, Bool, true, false, nat_le, ℕ, List, [], ◌∷◌, length, take, drop, length-drop, Option, None, Some, refl, sym, subst, arith, if◌then◌else◌}
 use Rattle.std.specs.Prelude.{decimal, option_and_then}
 use Rattle.std.specs.Option.{option_map}
 use Rattle.std.specs.Str.{bytes_eq}
 use Rattle.std.specs.Str.Parse.{digits_value}
 use Rattle.std.proofs.lemmas.Bool.{leb-true}
+use Rattle.std.proofs.lemmas.List.{length-take-le}
 use Rattle.std.proofs.lemmas.Bool.Decides.{nat_tests}
 use Rattle.tool_words.specs.Commands.{commands, verb_in}
 use Rattle.tool_words.specs.Jobs.{command_job, is_help, job_of, operands_job, transition_of, drill_of, rebase_of, side_of}
 use Rattle.tool_words.specs.Numbers.{number_between}
-use Rattle.tool_words.specs.Logs.{Parts, first_and_logs, first_logs, is_log_count, logs_of, parts_of, prefs_logs}
+use Rattle.tool_words.specs.Logs.{Parts, first_and_logs, is_log_count, logs_of, parts_of}
+use Rattle.tool_words.specs.Rounds.{are_different, folders_and_logs, round_of}
 use Rattle.tool_words.specs.Words.{Operand, Text, numbered, one_operand, plain_of, two_operands, three_operands, all_three_of}
 use Rattle.tool_words.specs.declared.commands.Verb.{Verb}
 use Rattle.tool_words.specs.declared.commands.Verb.TheVariants as verb
 use Rattle.tool_words.specs.declared.job.Side.{Side}
 use Rattle.tool_words.specs.declared.job.Job.{Job}
-use Rattle.tool_words.specs.declared.job.Job.TheVariants.{Help, Replay, Canon, Conflicts, Merge, Transition, Steer, Record, Seal, Apply, Drill, Explain, Undo, Catchup, Rebase}
+use Rattle.tool_words.specs.declared.job.Job.TheVariants.{Help, Replay, Canon, Conflicts, Merge, Transition, Steer, Record, Seal, Apply, Drill, Sync, Explain, Undo, Catchup, Rebase}
 use Rattle.tool_words.specs.LogCounts.{HasFewLogs}
 
 -- each job that there is has few logs
@@ -117,6 +119,34 @@ between_bounds low high text =
     here n true false eb c ec = tt
     here n false b eb c ec = tt
 
+-- a round has a log for each of its folders
+few_round : (parts : Option Parts)
+    → AllFew (option_map (λ (found : Option Operand × List Operand × List Operand). Sync found.0 found.1 found.2)
+    (option_and_then (λ (p : Parts). option_map (λ (pair : List Operand × List Operand). (p.0, pair.0, pair.1)) (round_of p.1)) parts))
+few_round None = tt
+few_round (Some (prefs, [])) = tt
+few_round (Some (prefs, number ∷ operands)) = by_number (number_between 1 64 number.text) (between_bounds 1 64 number.text)
+  where
+    both_counts : (k : ℕ) (b : Bool) → ((length operands == k + k) && b) ≡ true → length operands ≡ k + k
+    both_counts k b e = grind (arith, nat_tests)
+
+    here : (k : ℕ) → 1 ≤ k → k ≤ 64 → (b : Bool) → (b ≡ true → length operands ≡ k + k)
+        → AllFew (option_map (λ (found : Option Operand × List Operand × List Operand). Sync found.0 found.1 found.2)
+        (option_map (λ (pair : List Operand × List Operand). (prefs, pair.0, pair.1)) (if b then Some (take k operands, drop k operands) else None)))
+    here k low high false count = tt
+    here k low high true count =
+        let all = count refl in
+        let folders : length (take k operands) ≡ k = length-take-le k operands (omega (arith, all)) in
+        let logs : length (drop k operands) ≡ k = length-drop k operands ∙ omega (arith, all) in
+        (omega (arith, low, logs), omega (arith, high, logs), folders ∙ sym logs)
+
+    by_number : (number : Option ℕ) → AllBetween 1 64 number
+        → AllFew (option_map (λ (found : Option Operand × List Operand × List Operand). Sync found.0 found.1 found.2)
+        (option_map (λ (pair : List Operand × List Operand). (prefs, pair.0, pair.1)) (option_and_then (λ k. folders_and_logs k operands) number)))
+    by_number None bounds = tt
+    by_number (Some k) bounds =
+        here k bounds.0 bounds.1 ((length operands == k + k) && are_different (take k operands)) (both_counts k (are_different (take k operands)))
+
 few_drill : (o : Option (Operand × Operand × Operand)) → AllFew (option_and_then drill_of o)
 few_drill None = tt
 few_drill (Some (seed, logs, steps)) =
@@ -144,6 +174,7 @@ few_verb verb.Steer operands = few_first (plain_of operands)
 few_verb verb.Record operands = few_pair Record (λ a b. tt) (two_operands operands)
 few_verb verb.Seal operands = few_pair Seal (λ a b. tt) (two_operands operands)
 few_verb verb.Drill operands = few_drill (three_operands operands)
+few_verb verb.Sync operands = few_round (parts_of operands)
 few_verb verb.Explain operands = few_parts Explain (λ prefs logs few. few) (parts_of operands)
 few_verb verb.Undo operands = few_one Undo (λ a. tt) (one_operand operands)
 few_verb verb.Catchup operands = few_only Catchup (λ sets some few. (some, few)) (plain_of operands)

@@ -1,10 +1,11 @@
 -- Each operand of a job has the text of the word at its place.
-use Rattle.std.proofs.Common.{◌≡◌, ◌∙◌, Bool, true, false, refl, sym, ap, subst, ℕ, zero, suc, List, [], ◌∷◌, ◌++◌, Option, Some, None, cond, is_some, length, drop, true≢false, option_map, option_and_then}
+use Rattle.std.proofs.Common.{◌≡◌, ◌∙◌, Bool, true, false, refl, sym, ap, subst, ℕ, zero, suc, List, [], ◌∷◌, ◌++◌, Option, Some, None, cond, is_some, length, take, drop, take-append-drop, ◌&&◌, ◌==◌, ◌+◌, true≢false, option_map, option_and_then}
 use Rattle.std.specs.Option.{option_to_list}
 use Rattle.std.specs.List.{list_all}
 use Rattle.clap.proofs.WalkLemmas.{both}
 use Rattle.tool_words.specs.Words.{Text, Operand, operand_at, numbered, is_plain, plain_of, only_of, pair_of, one_operand, two_operands, three_operands, all_three_of}
 use Rattle.tool_words.specs.Logs.{Parts, is_log_count, logs_of, first_and_logs, only_logs, parts_of, prefs_logs}
+use Rattle.tool_words.specs.Rounds.{are_different, folders_and_logs, round_of}
 use Rattle.tool_words.specs.Commands.{commands, verb_in}
 use Rattle.tool_words.specs.Jobs.{is_help, job_of, command_job, operands_job, transition_of, drill_of, rebase_of, side_of}
 use Rattle.tool_words.specs.Numbers.{number_between}
@@ -13,7 +14,7 @@ use Rattle.tool_words.specs.declared.commands.Verb.{Verb}
 use Rattle.tool_words.specs.declared.commands.Verb.TheVariants as verb
 use Rattle.tool_words.specs.declared.job.Side.{Side}
 use Rattle.tool_words.specs.declared.job.Job.{Job}
-use Rattle.tool_words.specs.declared.job.Job.TheVariants.{Help, Replay, Canon, Conflicts, Merge, Transition, Steer, Record, Seal, Apply, Drill, Explain, Undo, Catchup, Rebase}
+use Rattle.tool_words.specs.declared.job.Job.TheVariants.{Help, Replay, Canon, Conflicts, Merge, Transition, Steer, Record, Seal, Apply, Drill, Sync, Explain, Undo, Catchup, Rebase}
 use Rattle.tool_words.proofs.Places.{numbered_plain}
 use Rattle.tool_words.proofs.Walks.{is_not}
 use Rattle.tool_words.proofs.PrefsOption.{IsPlainFile, Opening, Parted, equals, parted, placed, plain, skipped, spelled, word}
@@ -178,6 +179,37 @@ rebase_in_place name words =
         of_side None = tt
         of_side (Some n) = file_in_place name o (a ∷ w ∷ s ∷ rest) words _ is h all.1
 
+sync_in_place : (name : Text) (words : List Text) → AreInPlace (name ∷ words) (operands_in (operands_job verb.Sync (numbered 1 words)))
+sync_in_place name words =
+    of_parts words
+    (λ parts. AreInPlace (name ∷ words)
+    (operands_in (option_map (λ (found : Option Operand × List Operand × List Operand). Sync found.0 found.1 found.2)
+    (option_and_then (λ (p : Parts). option_map (λ (pair : List Operand × List Operand). (p.0, pair.0, pair.1)) (round_of p.1)) parts))))
+    (λ p. by p.opening p.rest (rest_in_place name p.opening p.rest words p.spelt p.all) p.spelt p.file) tt
+  where
+    by : (o : Opening) (rest : List Text) → AreInPlace (name ∷ words) (numbered (suc (skipped o)) rest) → spelled o rest ≡ words → IsPlainFile o
+        → AreInPlace (name ∷ words)
+        (operands_in (option_map (λ (found : Option Operand × List Operand × List Operand). Sync found.0 found.1 found.2)
+        (option_map (λ (pair : List Operand × List Operand). (placed o, pair.0, pair.1)) (round_of (numbered (suc (skipped o)) rest)))))
+    by o [] all is h = tt
+    by o (a ∷ rest) all is h = of_number (number_between 1 64 a)
+      where
+        operands : List Operand
+        operands = numbered (suc (suc (skipped o))) rest
+
+        cut : (k : ℕ) (b : Bool) → AreInPlace (name ∷ words)
+            (operands_in (option_map (λ (found : Option Operand × List Operand × List Operand). Sync found.0 found.1 found.2)
+            (option_map (λ (pair : List Operand × List Operand). (placed o, pair.0, pair.1)) (cond b (Some (take k operands, drop k operands)) None))))
+        cut k false = tt
+        cut k true =
+            file_in_place name o (a ∷ rest) words _ is h (subst (AreInPlace (name ∷ words)) (sym (take-append-drop k operands)) all.1)
+
+        of_number : (n : Option ℕ) → AreInPlace (name ∷ words)
+            (operands_in (option_map (λ (found : Option Operand × List Operand × List Operand). Sync found.0 found.1 found.2)
+            (option_map (λ (pair : List Operand × List Operand). (placed o, pair.0, pair.1)) (option_and_then (λ k. folders_and_logs k operands) n))))
+        of_number None = tt
+        of_number (Some k) = cut k ((length operands == k + k) && are_different (take k operands))
+
 steer_in_place : (name : Text) (words : List Text) → AreInPlace (name ∷ words) (operands_in (operands_job verb.Steer (numbered 1 words)))
 steer_in_place name words =
     of_plain words (λ them. AreInPlace (name ∷ words) (operands_in (option_map (λ pair. Steer pair.0 pair.1) (option_and_then first_and_logs them)))) (first words) tt
@@ -211,6 +243,7 @@ in_place (Some verb.Steer) name words = steer_in_place name words
 in_place (Some verb.Record) name words = two_in_place Record (λ a b. refl) name words
 in_place (Some verb.Seal) name words = two_in_place Seal (λ a b. refl) name words
 in_place (Some verb.Drill) name words = drill_in_place (name ∷ words) (three_operands (numbered 1 words))
+in_place (Some verb.Sync) name words = sync_in_place name words
 in_place (Some verb.Explain) name words = prefs_in_place Explain (λ prefs logs. refl) name words
 in_place (Some verb.Undo) name words = one_in_place Undo (λ set. refl) name words
 in_place (Some verb.Catchup) name words = logs_in_place Catchup (λ sets. refl) name words

@@ -13,5 +13,6 @@ pub mod InPlace
 pub mod Table
 pub mod Folders
 pub mod Numbered
+pub mod FoldersAndLogs
 pub mod FewLogs
 pub mod CallerLemmas

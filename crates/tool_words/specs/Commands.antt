@@ -4,7 +4,7 @@ use Rattle.std.specs.Str.{bytes_eq}
 use Rattle.tool_words.specs.Words.{Text}
 use Rattle.tool_words.specs.declared.commands.CommandShape.{CommandShape}
 use Rattle.tool_words.specs.declared.commands.Verb.{Verb}
-use Rattle.tool_words.specs.declared.commands.Verb.TheVariants.{Replay, Canon, Conflicts, Merge, Transition, Steer, Record, Seal, Apply, Drill, Explain, Undo, Catchup, Rebase}
+use Rattle.tool_words.specs.declared.commands.Verb.TheVariants.{Replay, Canon, Conflicts, Merge, Transition, Steer, Record, Seal, Apply, Drill, Sync, Explain, Undo, Catchup, Rebase}
 
 -- what a command does, its name, and its operands as the help shows them
 pub record Shape : Type 0 where
@@ -29,6 +29,7 @@ commands =
     ∷ record { verb = Seal; name = codes "seal"; operands = codes "FOLDER LOG" }
     ∷ record { verb = Apply; name = codes "apply"; operands = codes "FOLDER SET" }
     ∷ record { verb = Drill; name = codes "drill"; operands = codes "SEED LOGS STEPS" }
+    ∷ record { verb = Sync; name = codes "sync"; operands = codes "[--prefs FILE] K FOLDER... LOG..." }
     ∷ record { verb = Explain; name = codes "explain"; operands = codes "[--prefs FILE] LOG..." }
     ∷ record { verb = Undo; name = codes "undo"; operands = codes "SET" }
     ∷ record { verb = Catchup; name = codes "catchup"; operands = codes "SET..." }

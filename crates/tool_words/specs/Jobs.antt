@@ -4,13 +4,14 @@ use Rattle.std.specs.Str.{bytes_eq}
 use Rattle.tool_words.specs.Words.{Text, Operand, numbered, one_operand, two_operands, three_operands, all_three_of}
 use Rattle.tool_words.specs.Logs.{only_logs, prefs_logs, first_logs, prefs_first_logs}
 use Rattle.tool_words.specs.Numbers.{number_between}
+use Rattle.tool_words.specs.Rounds.{prefs_round}
 use Rattle.tool_words.specs.Commands.{commands, verb_in}
 use Rattle.tool_words.specs.declared.commands.Verb.{Verb}
 use Rattle.tool_words.specs.declared.commands.Verb.TheVariants as verb
 use Rattle.tool_words.specs.declared.job.Side.{Side}
 use Rattle.tool_words.specs.declared.job.Side.TheVariants as side
 use Rattle.tool_words.specs.declared.job.Job.{Job}
-use Rattle.tool_words.specs.declared.job.Job.TheVariants.{Help, Replay, Canon, Conflicts, Merge, Transition, Steer, Record, Seal, Apply, Drill, Explain, Undo, Catchup, Rebase}
+use Rattle.tool_words.specs.declared.job.Job.TheVariants.{Help, Replay, Canon, Conflicts, Merge, Transition, Steer, Record, Seal, Apply, Drill, Sync, Explain, Undo, Catchup, Rebase}
 
 -- the only word asks for the help
 abbrev pub is_help : List Text → Bool
@@ -48,6 +49,7 @@ operands_job verb.Record operands = option_map (λ pair. Record pair.0 pair.1) (
 operands_job verb.Seal operands = option_map (λ pair. Seal pair.0 pair.1) (two_operands operands)
 operands_job verb.Apply operands = option_map (λ pair. Apply pair.0 pair.1) (two_operands operands)
 operands_job verb.Drill operands = option_and_then drill_of (three_operands operands)
+operands_job verb.Sync operands = option_map (λ parts. Sync parts.0 parts.1 parts.2) (prefs_round operands)
 operands_job verb.Explain operands = option_map (λ parts. Explain parts.0 parts.1) (prefs_logs operands)
 operands_job verb.Undo operands = option_map Undo (one_operand operands)
 operands_job verb.Catchup operands = option_map Catchup (only_logs operands)

@@ -1,6 +1,7 @@
 pub mod Words
 pub mod Logs
 pub mod Numbers
+pub mod Rounds
 pub mod Apps
 pub mod Commands
 pub mod Jobs

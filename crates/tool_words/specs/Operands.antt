@@ -4,7 +4,7 @@ use Rattle.std.specs.List.{AllByRecursion}
 use Rattle.tool_words.specs.Words.{Text, Operand}
 use Rattle.tool_words.specs.Logs.{has_prefs_prefix}
 use Rattle.tool_words.specs.declared.job.Job.{Job}
-use Rattle.tool_words.specs.declared.job.Job.TheVariants.{Help, Replay, Canon, Conflicts, Merge, Transition, Steer, Record, Seal, Apply, Drill, Explain, Undo, Catchup, Rebase}
+use Rattle.tool_words.specs.declared.job.Job.TheVariants.{Help, Replay, Canon, Conflicts, Merge, Transition, Steer, Record, Seal, Apply, Drill, Sync, Explain, Undo, Catchup, Rebase}
 
 -- the word at a place, and the empty word where there is none
 abbrev pub word_at : List Text → ℕ → Text
@@ -33,6 +33,7 @@ job_operands (Record folder script) = folder ∷ script ∷ []
 job_operands (Seal folder log) = folder ∷ log ∷ []
 job_operands (Apply folder set) = folder ∷ set ∷ []
 job_operands (Drill seed logs steps) = []
+job_operands (Sync prefs folders logs) = option_to_list prefs ++ (folders ++ logs)
 job_operands (Explain prefs logs) = option_to_list prefs ++ logs
 job_operands (Undo set) = set ∷ []
 job_operands (Catchup sets) = sets

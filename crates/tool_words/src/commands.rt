@@ -22,6 +22,7 @@ pub(crate) enum Verb {
     Seal,
     Apply,
     Drill,
+    Sync,
     Explain,
     Undo,
     Catchup,
@@ -37,7 +38,7 @@ pub(crate) struct CommandShape {
 }
 
 /// The commands that are built, in the order of the help.
-pub(crate) const COMMANDS: [CommandShape; 14] = [
+pub(crate) const COMMANDS: [CommandShape; 15] = [
     CommandShape {
         verb: Verb::Replay,
         name: "replay",
@@ -87,6 +88,11 @@ pub(crate) const COMMANDS: [CommandShape; 14] = [
         verb: Verb::Drill,
         name: "drill",
         operands: "SEED LOGS STEPS",
+    },
+    CommandShape {
+        verb: Verb::Sync,
+        name: "sync",
+        operands: "[--prefs FILE] K FOLDER... LOG...",
     },
     CommandShape {
         verb: Verb::Explain,

@@ -1,12 +1,15 @@
-//! The operands at the end of the words, as a list that borrows the words and copies nothing.
+//! Operands that follow one another in the words, as a list that borrows the words and copies
+//! nothing.
 
-ghost use Rattle.std.specs.Prelude.{◌≡◌, ◌<◌, ◌≤◌, ◌+◌, ◌∷◌, [], IfNone, IfSome, Some, length, drop, option_map, slice_get};
+ghost use Rattle.std.specs.Prelude.{◌≡◌, ◌<◌, ◌≤◌, ◌+◌, ◌∷◌, [], IfNone, IfSome, Some, length, take, drop, option_map, slice_get};
 ghost use Rattle.tool_words.specs.Words.{texts_of, numbered, places_of, first_place};
 
 use crate::job::Word;
 use std::marker::Model;
+use std::ops::Range;
 
-/// The operands from one word on to the last: each a word, with the place of that word.
+/// The operands from one word on to the last of the words that it borrows: each a word, with the
+/// place of that word. Where the list ends before the words of the command, it borrows no more.
 #[derive(Debug, Drop)]
 pub struct FileList<'a> {
     words: &'a [String],
@@ -43,6 +46,30 @@ impl<'a> FileList<'a> {
         }
         let word = Word::new(self.words[self.first].as_str(), self.first);
         Some((word, FileList::new(self.words, self.first + 1)))
+    }
+
+    /// The first `at` operands, and those that follow them.
+    pub(crate) fn split_at(self, at: usize) -> (FileList<'a>, FileList<'a>)
+        requires { at ≤ length self }
+        ensures { (result.0 ≡ take at self.entry) × (result.1 ≡ drop at self.entry) }
+    {
+        let end = self.first + at;
+        (
+            FileList::new(&self.words[..end], self.first),
+            FileList::new(self.words, end),
+        )
+    }
+
+    /// The places of the operands' words, which follow one another; 0..0 where there is no operand.
+    pub(crate) fn places(&self) -> Range<usize>
+        ensures start { result.start ≡ first_place (places_of self.now) }
+        ensures end { result.end ≡ result.start + length self.now }
+    {
+        if self.first == self.words.len() {
+            0..0
+        } else {
+            self.first..self.words.len()
+        }
     }
 
     /// How many operands there are.

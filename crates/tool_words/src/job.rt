@@ -118,6 +118,15 @@ pub enum Job<'a> {
         logs: u32,
         steps: u32,
     },
+    /// Lead the tree in each of the folders to the first merger of the logs, under the rules of the
+    /// file `prefs` or under none, and print how many calls changed them. There are 1 to 64
+    /// folders, no two of the same text, and as many logs, each recorded in the folder that stands
+    /// at its place among them.
+    Sync {
+        prefs: Option<Word<'a>>,
+        folders: FileList<'a>,
+        logs: FileList<'a>,
+    },
     /// Print why each command that the first merger of the logs leaves out cannot be kept beside
     /// it, under the rules of the file `prefs` or under none.
     Explain {

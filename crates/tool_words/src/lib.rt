@@ -14,6 +14,7 @@ mod numbers;
 mod operand_words;
 mod operands;
 mod read;
+mod rounds;
 pub mod texts;
 mod trees;
 

@@ -122,7 +122,7 @@ fn first_and_logs_matches<'a>(
 
 /// Whether the words of a command have the option in its place or not at all, and each other word
 /// that follows the command's name is plain.
-fn have_operand_parts(words: &[String]) -> bool
+pub(crate) fn have_operand_parts(words: &[String]) -> bool
     ensures { result ≡ is_some (parts_of (operands_of words.now)) }
 {
     match words.split_first() {

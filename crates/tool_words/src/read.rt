@@ -11,6 +11,7 @@ use crate::job::{Job, Side, WordFault};
 use crate::logs::{first_and_logs, only_logs, prefs_and_logs, prefs_first_and_logs};
 use crate::numbers::read_number;
 use crate::operands::{one_operand, three_operands, two_operands};
+use crate::rounds::prefs_round;
 use std::alloc::Global;
 
 /// The greatest number that a drill begins with.
@@ -151,6 +152,14 @@ fn read_operands<'a>(
         }
         Verb::Drill => read_drill(alloc, name, words),
         Verb::Transition => read_transition(alloc, name, words),
+        Verb::Sync => match prefs_round(words) {
+            Some((prefs, folders, logs)) => Ok(Job::Sync {
+                prefs,
+                folders,
+                logs,
+            }),
+            None => Err(WordFault::Refused),
+        },
         Verb::Explain => {
             let (prefs, logs) = prefs_and_logs(alloc, name, words)?;
             Ok(Job::Explain { prefs, logs })
@@ -171,9 +180,11 @@ fn read_operands<'a>(
 ///
 /// `help` or `--help` alone is the help. Any other words are the name of a command that is built,
 /// and the operands that the help lists for it, no more and no fewer, where LOG... and SET... are
-/// one file to 64, and in `rebase` to 63; its SIDE is `tree` or `next`. `--prefs FILE` or `--prefs=FILE` may stand right after a command that the help shows it
-/// for. FILE and each operand is not empty and does not begin with a dash. Refused comes only where
-/// the words are no such job, and is the answer to all such words but where memory ran out.
+/// one file to 64, and in `rebase` to 63; its SIDE is `tree` or `next`. In `sync` the number K, 1
+/// to 64, has as many folders after it, no two of the same text, and then as many logs.
+/// `--prefs FILE` or `--prefs=FILE` may stand right after a command that the help shows it for.
+/// FILE and each operand is not empty and does not begin with a dash. Refused comes only where the
+/// words are no such job, and is the answer to all such words but where memory ran out.
 pub fn read_words<'a>(alloc: Global, words: &'a [String]) -> Result<Job<'a>, WordFault>
     ensures ok { IfOk result (λ job. job_of (texts_of words.entry.now) ≡ Some job) }
     ensures refused { IsErrOf result Refused → job_of (texts_of words.entry.now) ≡ None }

@@ -27,7 +27,7 @@ fn prefs_text(alloc: Global, prefs: &Option<Word>) -> Result<String, AllocError>
     }
 }
 
-/// How many logs there are, and the first and the last of them.
+/// How many operands there are, and the first and the last of them.
 fn logs_text(alloc: Global, logs: &FileList) -> Result<String, AllocError> {
     let count = logs.len();
     if count == 0 {
@@ -99,6 +99,17 @@ fn job_text(alloc: Global, line: &str) -> Result<String, AllocError> {
             format!(in alloc; "apply {folder} {set}")
         }
         Ok(Job::Drill { seed, logs, steps }) => { format!(in alloc; "drill {seed} {logs} {steps}") }
+        Ok(
+            Job::Sync {
+                prefs,
+                folders,
+                logs,
+            },
+        ) => {
+            let (folders, logs) = (logs_text(alloc, folders)?, logs_text(alloc, logs)?);
+            let prefs = prefs_text(alloc, prefs)?;
+            format!(in alloc; "sync {prefs}{folders} {logs}")
+        }
         Ok(Job::Explain { prefs, logs }) => {
             let (prefs, logs) = (prefs_text(alloc, prefs)?, logs_text(alloc, logs)?);
             format!(in alloc; "explain {prefs}{logs}")
@@ -247,10 +258,82 @@ fn jobs_are_read(rt: HostRuntime) -> Result<(), AllocError> {
     Ok(())
 }
 
+/// Lines of `sync`: its job, how many folders it has, and the place of the first.
+const ROUNDS: [(&str, &str, usize, usize); 24] = [
+    ("sync 1 w l", "sync 1: 2=w 2=w 1: 3=l 3=l", 1, 2),
+    ("sync 2 w1 w2 l1 l2", "sync 2: 2=w1 3=w2 2: 4=l1 5=l2", 2, 2),
+    ("sync 2 w1 w2 l l", "sync 2: 2=w1 3=w2 2: 4=l 5=l", 2, 2),
+    ("sync 1 w w", "sync 1: 2=w 2=w 1: 3=w 3=w", 1, 2),
+    (
+        "sync --prefs p 2 w1 w2 l1 l2",
+        "sync 2=p 2: 4=w1 5=w2 2: 6=l1 7=l2",
+        2,
+        4,
+    ),
+    (
+        "sync --prefs=p 1 w l",
+        "sync 1=p 1: 3=w 3=w 1: 4=l 4=l",
+        1,
+        3,
+    ),
+    ("sync", "refused", 0, 0),
+    ("sync 1", "refused", 0, 0),
+    ("sync 1 w", "refused", 0, 0),
+    ("sync w l", "refused", 0, 0),
+    ("sync 0", "refused", 0, 0),
+    ("sync 0 w l", "refused", 0, 0),
+    ("sync 01 w l", "refused", 0, 0),
+    ("sync +1 w l", "refused", 0, 0),
+    ("sync 2 w1 w2 l1", "refused", 0, 0),
+    ("sync 2 w1 w2 l1 l2 l3", "refused", 0, 0),
+    ("sync 2 w w l1 l2", "refused", 0, 0),
+    ("sync 3 w v w l1 l2 l3", "refused", 0, 0),
+    ("sync 1 -w l", "refused", 0, 0),
+    ("sync 1 w -l", "refused", 0, 0),
+    ("sync --prefs= 1 w l", "refused", 0, 0),
+    ("sync --prefs p", "refused", 0, 0),
+    ("sync 1 w l --prefs=p", "refused", 0, 0),
+    ("sync 1 --prefs=p w l", "refused", 0, 0),
+];
+
+/// The words of a `sync` of so many folders, each of its own name, and as many logs.
+fn round_words(alloc: Global, count: u32) -> Result<Vec<String>, AllocError> {
+    let mut words = Vec::new(alloc);
+    words.push(String::from_str(alloc, "sync")?)?;
+    words.push(format!(in alloc; "{count}")?)?;
+    for number in 0..count {
+        words.push(format!(in alloc; "w{number}")?)?;
+    }
+    for _ in 0..count {
+        words.push(String::from_str(alloc, "l")?)?;
+    }
+    Ok(words)
+}
+
+#[test]
+fn rounds_are_read(rt: HostRuntime) -> Result<(), AllocError> {
+    let alloc = rt.alloc();
+    for (line, job, folders, first) in ROUNDS {
+        let text = job_text(alloc, line)?;
+        assert_eq!(rt; text.as_str(), job);
+        let words = words_of(alloc, line)?;
+        assert_eq!(rt; trees_wanted(&words), folders);
+        assert_eq!(rt; first_tree_word(&words), first);
+    }
+    let words = round_words(alloc, 64)?;
+    assert_eq!(rt; trees_wanted(&words), 64);
+    assert_eq!(rt; first_tree_word(&words), 2);
+    assert!(rt; matches!(&read_words(alloc, &words), Ok(Job::Sync { .. })));
+    let words = round_words(alloc, 65)?;
+    assert_eq!(rt; trees_wanted(&words), 0);
+    assert!(rt; matches!(&read_words(alloc, &words), Err(WordFault::Refused)));
+    Ok(())
+}
+
 #[test]
 fn the_help_has_a_line_for_each_command(rt: HostRuntime) {
     let text = help(rt.alloc()).expect(&rt, "memory");
     let wanted =
-        "usage: treesync COMMAND WORDS\n  replay SNAP LOG\n  canon LOG\n  conflicts LOG...\n  merge [--prefs FILE] LOG...\n  transition [--prefs FILE] N LOG...\n  steer SET LOG...\n  record FOLDER SCRIPT\n  seal FOLDER LOG\n  apply FOLDER SET\n  drill SEED LOGS STEPS\n  explain [--prefs FILE] LOG...\n  undo SET\n  catchup SET...\n  rebase [--prefs FILE] SIDE WORK SET...\n";
+        "usage: treesync COMMAND WORDS\n  replay SNAP LOG\n  canon LOG\n  conflicts LOG...\n  merge [--prefs FILE] LOG...\n  transition [--prefs FILE] N LOG...\n  steer SET LOG...\n  record FOLDER SCRIPT\n  seal FOLDER LOG\n  apply FOLDER SET\n  drill SEED LOGS STEPS\n  sync [--prefs FILE] K FOLDER... LOG...\n  explain [--prefs FILE] LOG...\n  undo SET\n  catchup SET...\n  rebase [--prefs FILE] SIDE WORK SET...\n";
     assert_eq!(rt; text.as_slice(), wanted.as_bytes());
 }

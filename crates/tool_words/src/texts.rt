@@ -21,8 +21,15 @@ pub const BELOW: &str = "below ";
 /// Before the number of clashes.
 pub const CLASHES: &str = "clashes ";
 
+/// Why a command is left out; between its path and those of its chain, each after a blank.
+pub const TAKEN: &str = " taken";
+/// Before the number of commands that were left out.
+pub const LEFT: &str = "left ";
+
 /// Before the number of calls that changed a tree.
 pub const APPLIED: &str = "applied ";
+/// Before the number of calls that changed the trees of a round.
+pub const SYNCED: &str = "synced ";
 
 /// What each line begins with.
 pub const PROGRAM: &str = "treesync: ";
@@ -91,6 +98,8 @@ pub const LABELLED: &str = "labelled";
 pub const OUT_OF_MEMORY: &str = "out of memory";
 /// The snapshot's tree does not take a command of the log (status 17).
 pub const NOT_TAKEN: &str = "not taken";
+/// A set does not follow those before it; before the path at which it does not (status 18).
+pub const DOES_NOT_FOLLOW: &str = "does not follow at ";
 
 /// The first line is not the form's (status 5, and so all below).
 pub const HEADER: &str = "header";

@@ -112,7 +112,7 @@ no_four (TreeFailed word) e = absurd (omega (arith, e))
 no_four (TreeDenied word) e = absurd (omega (arith, e))
 
 -- statuses 0 and 4 are those of an output
-text_status : (answer : Result Output Refusal) (status : ℕ) (a b : SinkState) → Prints answer status a b → (status ≡ 0) ⊎ (status ≡ 4) → (output : Output) × (answer ≡ Ok output)
+pub text_status : (answer : Result Output Refusal) (status : ℕ) (a b : SinkState) → Prints answer status a b → (status ≡ 0) ⊎ (status ≡ 4) → (output : Output) × (answer ≡ Ok output)
 text_status (Ok text) status a b p z = (text, refl)
 text_status (Err InvalidArguments) status a b p (inl z) = absurd (omega (arith, p.0, z))
 text_status (Err InvalidArguments) status a b p (inr z) = absurd (omega (arith, p.0, z))

@@ -21,7 +21,7 @@ IsFindingOrOk (Err r) = ⊥
 
 -- ---- a refusal of the first check is the answer of both
 
-refused : {A B : Type 0} (P : Check A) (Q : A → Check B) (counted : Causes) (known : Option FileContents) (r : Refusal) →
+pub refused : {A B : Type 0} (P : Check A) (Q : A → Check B) (counted : Causes) (known : Option FileContents) (r : Refusal) →
     IsAllowed P known counted (Err r) → IsAllowed (Then P Q) known counted (Err r)
 refused P Q counted None InvalidArguments h = h
 refused P Q counted None OutOfMemory h = h
@@ -152,7 +152,7 @@ pub allowed_more : {X B : Type 0} (stands : X → B → Type 0) (Q : Check B) (c
 allowed_more stands Q counted counted' known (Ok x) f h = (h.0, h.1, next Q counted counted' known (Ok h.0) f h.2)
 allowed_more stands Q counted counted' known (Err r) f h = next Q counted counted' known (Err r) f h
 
-second : {A B : Type 0} (P : Check A) (Q : A → Check B) (counted counted' : Causes) (a : A) (known : Option FileContents) (answer : Result B Refusal) →
+pub second : {A B : Type 0} (P : Check A) (Q : A → Check B) (counted counted' : Causes) (a : A) (known : Option FileContents) (answer : Result B Refusal) →
     IsAllowed P known counted' (Ok a) → IsAllowed (Q a) known counted answer → IsAllowed (Then P Q) known counted answer
 second P Q counted counted' a None (Ok x) h q = q
 second P Q counted counted' a None (Err InvalidArguments) h q = q

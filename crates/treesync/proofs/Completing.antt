@@ -1,20 +1,21 @@
 -- Where the files hold what a job asks for, the job has a text, and prints it.
-use Rattle.std.proofs.Common.{◌≡◌, ◌-◌, ◌≤◌, ◌<◌, false, ℕ, zero, suc, List, [], ◌∷◌, length, Option, None, Some, Ok, Err, inl, inr, refl, sym, ap, subst, ◌∙◌, arith, ◌⊎◌}
+use Rattle.std.proofs.Common.{◌≡◌, ◌-◌, ◌≤◌, ◌<◌, true, false, ℕ, zero, suc, List, [], ◌∷◌, length, Option, None, Some, Result, Ok, Err, inl, inr, refl, sym, ap, subst, ◌∙◌, arith, ◌⊎◌}
 use Rattle.std.proofs.lemmas.List.Sums.{sum_by-cons}
 use Rattle.sync_command.specs.Changes.{Change}
 use Rattle.sync_command.specs.Maps.{at, stored}
 use Rattle.sync_port.specs.States.{FaultCounted}
 use Rattle.sync_port.specs.Ports.{FileContents, Names}
 use Rattle.apply_model.specs.Entries.{rows_of, store_of}
-use Rattle.canon_set.specs.Logs.{net}
+use Rattle.canon_set.specs.Logs.{IsTaken, all_change, net}
 use Rattle.canon_set.specs.Sets.{canonical}
 use Rattle.log_text.specs.Logs.{log_text}
 use Rattle.log_text.specs.Snapshots.{snapshot_text}
-use Rattle.refluent.specs.CommonTrees.{AllChange, IsAmong}
+use Rattle.refluent.specs.CommonTrees.{AllChange, HasCommonTree, IsAmong}
 use Rattle.refluent.specs.FirstDisagreements.{log_at}
 use Rattle.refluent.specs.Joints.{net_sets}
 use Rattle.pref_list.specs.Orders.{first_fault}
 use Rattle.pref_list.specs.Ranking.{ranking}
+use Rattle.pref_list.specs.declared.rules.Rule.{Rule}
 use Rattle.merge_core.specs.Conflicts.{greedy_scan}
 use Rattle.merge_core.proofs.CallerLemmas.{greedy_law}
 use Rattle.transition.specs.Transitions.{transition}
@@ -25,22 +26,33 @@ use Rattle.tool_words.specs.LogCounts.{HasFewLogs}
 use Rattle.tool_words.specs.Trees.{job_folders}
 use Rattle.tool_words.specs.Words.{Operand, Text}
 use Rattle.tool_words.specs.declared.job.Job.{Job}
-use Rattle.tool_words.specs.declared.job.Job.TheVariants.{Help, Replay, Canon, Conflicts, Merge, Transition, Steer, Record, Seal, Apply, Drill}
+use Rattle.tool_words.specs.declared.job.Job.TheVariants.{Help, Replay, Canon, Conflicts, Merge, Transition, Steer, Record, Seal, Apply, Drill, Sync, Explain, Undo, Catchup, Rebase}
 use Rattle.tool_words.proofs.CallerLemmas.{few_logs}
+use Rattle.std.specs.List.{AllByRecursion}
+use Rattle.rounds.specs.Compositions.{chain_list, composition, undoing}
+use Rattle.rounds.specs.Rebasing.{rebase_logs}
+use Rattle.rounds.proofs.CallerLemmas.{all_change-canonical}
+use Rattle.tool_words.specs.declared.job.Side.{Side}
+use Rattle.tool_words.specs.declared.job.Side.TheVariants.{Tree, Next as NextRound}
 use Rattle.treesync.specs.Canon.{IsCanon}
+use Rattle.treesync.specs.Catchup.{IsCatchup, IsComposed, nets_of}
 use Rattle.treesync.specs.Checks.{Check, IsOne, Judged}
-use Rattle.treesync.specs.Completeness.{CompletesJob, HoldJoin, HoldReplay, HoldsTaken, IsMet, IsPrintedStatus}
+use Rattle.treesync.specs.Completeness.{CompletesJob, HoldChain, HoldJoin, HoldRebase, HoldReplay, HoldsTaken, IsMet, IsPrintedStatus}
 use Rattle.treesync.specs.Conflicts.{IsConflicts}
 use Rattle.treesync.specs.Drill.{IsDrill}
+use Rattle.treesync.specs.Explain.{IsExplain}
 use Rattle.treesync.specs.Headline.{HoldLogs, HoldTexts, Recorded, all_commands, text_of}
 use Rattle.treesync.specs.Jobs.{IsAnswerOf, Outside, Ran, held_tree}
-use Rattle.treesync.specs.Joining.{IsJoined, commands_of, joint_version}
-use Rattle.treesync.specs.Logs.{IsLog, later_version}
+use Rattle.treesync.specs.Joining.{AreTaken, IsJoined, IsLogs, commands_of, joint_version}
+use Rattle.treesync.specs.Logs.{IsLog, ReadLog, later_version}
 use Rattle.treesync.specs.Merge.{IsFirstMergerFor, IsMerge}
 use Rattle.treesync.specs.Outputs.{AsText, Output, status_in}
+use Rattle.treesync.specs.Preferences.{preference_word}
+use Rattle.treesync.specs.Rebase.{IsRebase, IsRebaseOf, IsRebased, as_logs, side_number}
 use Rattle.treesync.specs.Replay.{IsReplay}
 use Rattle.treesync.specs.Steer.{IsSteer}
-use Rattle.treesync.specs.Transition.{IsTransition, IsTransitionFor}
+use Rattle.treesync.specs.Transition.{IsTransition, IsTransitionFor, IsTransitioned}
+use Rattle.treesync.specs.Undo.{IsUndo}
 use Rattle.treesync.specs.declared.input.TheConstants.{FILE_LIMIT}
 use Rattle.treesync.specs.declared.logs.TheConstants.{FULL_ALLOWANCE, MAX_COMMANDS}
 use Rattle.treesync.specs.declared.refusal.Refusal.{Refusal}
@@ -48,7 +60,7 @@ use Rattle.treesync.proofs.HeadlineLemmas.{completes_of, job_answer, joined_read
 use Rattle.treesync.proofs.HeldLogs.{all_change_held, log_read, logs_read, ok_is, ok_no_err, preferences_read, read_of, reads_of, same_commands, snapshot_read}
 use Rattle.treesync.proofs.OutputLemmas.{as_text, low_status}
 use Rattle.treesync.proofs.SteerHeadline.{right_rules}
-use Rattle.treesync.proofs.Unique.{canon_one, joined_one, logs_one, merge_one, replay_one, steer_one, transition_one}
+use Rattle.treesync.proofs.Unique.{canon_one, catchup_one, joined_one, logs_one, merge_one, rebase_one, replay_one, steer_one, transition_one, undo_one}
 
 -- ---- one log
 
@@ -90,51 +102,150 @@ many_commands : (logs : List Recorded) → length (all_commands logs) ≡ length
 many_commands [] = refl
 many_commands (log ∷ logs) = ap suc (many_commands logs)
 
-module _ (held : Names) (number : ℕ) (prefs : Option Operand) (files : List Operand) (h : HoldJoin held prefs files) (low : 0 < number) (high : number ≤ length files) where
-  abbrev logs : List (List Change)
-  logs = all_commands h.logs
-
-  change : AllChange logs
-  change = all_change_held held files h.logs h.hold.texts
-
+-- the first merger of logs, and the transition of one of them
+module _ (logs : List (List Change)) (change : AllChange logs) (common : HasCommonTree logs) (rules : List Rule) (number : ℕ) (within : number - 1 < length logs) where
   abbrev merger : List Change
-  merger = greedy_scan (ranking logs h.rules) []
+  merger = greedy_scan (ranking logs rules) []
 
-  first : IsFirstMergerFor logs h.rules merger
-  first t tree = greedy_law logs change t tree h.rules
+  pub first : IsFirstMergerFor logs rules merger
+  first t tree = greedy_law logs change t tree rules
 
   abbrev set : List Change
-  set = canonical (transition (at h.common.map) (net (log_at logs (number - 1))) merger)
-
-  within : number - 1 < length logs
-  within = let n = as_many held files h.logs h.hold.texts in let k = many_commands h.logs in omega (arith, n, k, low, high)
+  set = canonical (transition (at common.map) (net (log_at logs (number - 1))) merger)
 
   set_is : IsTransitionFor logs number merger set
-  set_is m common = ap canonical (law_of_each_tree logs change h.common.map m h.common.common common (log_at logs (number - 1)) (among_at logs (number - 1) within) merger (first m common).merger.within)
+  set_is m tree = ap canonical (law_of_each_tree logs change common.map m common.common tree (log_at logs (number - 1)) (among_at logs (number - 1) within) merger (first m tree).merger.within)
 
-  abbrev Printed : List (List Change) → Type 0
-  Printed l = IsFirstMergerFor l h.rules merger × IsTransitionFor l number merger set
+-- the transition of one of the logs that were read
+transitioned : (number : ℕ) (word : ℕ) (rules : List Rule) (reads : List ReadLog) → AllChange (commands_of reads) → HasCommonTree (commands_of reads) → number - 1 < length (commands_of reads) →
+    first_fault (net_sets (commands_of reads)) rules ≡ None → (text : List ℕ) × IsTransitioned number word rules reads (Ok text)
+transitioned number word rules reads change common within named = (
+  log_text (joint_version reads) (set (commands_of reads) change common rules number within),
+  inr (
+    reads,
+    (refl, named),
+    (merger (commands_of reads) change common rules number within, set (commands_of reads) change common rules number within, first (commands_of reads) change common rules number within, set_is (commands_of reads) change common rules number within, refl),
+  ),
+)
 
-  read_printed : Printed (commands_of (reads_of h.logs))
-  read_printed = subst Printed (sym (same_commands h.logs)) (first, set_is)
+module _ (held : Names) (number : ℕ) (prefs : Option Operand) (files : List Operand) (h : HoldJoin held prefs files) (low : 0 < number) (high : number ≤ length files) where
+  abbrev these : List ReadLog
+  these = reads_of h.logs
+
+  abbrev AreMerged : List (List Change) → Type 0
+  AreMerged l = AllChange l × HasCommonTree l × (number - 1 < length l) × (first_fault (net_sets l) h.rules ≡ None)
+
+  within : number - 1 < length (all_commands h.logs)
+  within = let n = as_many held files h.logs h.hold.texts in let k = many_commands h.logs in omega (arith, n, k, low, high)
+
+  are_merged : AreMerged (commands_of these)
+  are_merged = subst AreMerged (sym (same_commands h.logs)) (all_change_held held files h.logs h.hold.texts, h.common, within, h.named)
 
   transition_right : (text : List ℕ) × IsTransition number prefs files held false (Ok text)
-  transition_right = (
-    log_text (joint_version (reads_of h.logs)) set,
-    inr (
-      h.rules,
-      preferences_read held prefs h.rules h.prefer,
-      inr (
-        reads_of h.logs,
-        logs_read held files h.logs FULL_ALLOWANCE h.hold.texts h.hold.bytes h.hold.commands,
+  transition_right =
+      let found = transitioned number (preference_word prefs) h.rules these are_merged.0 are_merged.1 are_merged.2 are_merged.3 in (
+        found.0,
         inr (
-          reads_of h.logs,
-          joined_read files h.logs h.common,
-          inr (reads_of h.logs, (refl, ap (λ l. first_fault (net_sets l) h.rules) (same_commands h.logs) ∙ h.named), (merger, set, read_printed.0, read_printed.1, refl)),
+          h.rules,
+          preferences_read held prefs h.rules h.prefer,
+          inr (these, logs_read held files h.logs FULL_ALLOWANCE h.hold.texts h.hold.bytes h.hold.commands, inr (these, joined_read files h.logs h.common, found.1)),
         ),
-      ),
-    ),
-  )
+      )
+
+-- ---- sets
+
+undo_right : (held : Names) (file : Operand) → HoldsTaken held file → (text : List ℕ) × IsUndo file.place file.text held false (Ok text)
+undo_right held file h = (
+  log_text h.log.version (undoing h.log.commands),
+  inr (read_of h.log, held_log_read held file h.log h.hold, inr (canonical (net h.log.commands), (h.taken, refl), refl)),
+)
+
+each_read : (sets : List Recorded) → AllByRecursion (λ (set : Recorded). IsTaken set.commands) sets → AreTaken (reads_of sets)
+each_read [] h = tt
+each_read (set ∷ sets) h = (h.0, each_read sets h.1)
+
+-- what they do one after another
+composed_right : (files : List Operand) (sets : List Recorded) → IsTaken (chain_list (net_sets (all_commands sets))) → IsComposed files (nets_of (reads_of sets)) (Ok (canonical (composition (nets_of (reads_of sets)))))
+composed_right files sets follow = (subst (λ l. IsTaken (chain_list (net_sets l))) (sym (same_commands sets)) follow, refl)
+
+catchup_right : (held : Names) (files : List Operand) → HoldChain held files → (text : List ℕ) × IsCatchup files held false (Ok text)
+catchup_right held files h = (
+  log_text (joint_version (reads_of h.sets)) (canonical (composition (nets_of (reads_of h.sets)))),
+  inr (
+    reads_of h.sets,
+    logs_read held files h.sets FULL_ALLOWANCE h.hold.texts h.hold.bytes h.hold.commands,
+    inr (reads_of h.sets, (refl, each_read h.sets h.each), inr (canonical (composition (nets_of (reads_of h.sets))), composed_right files h.sets h.follow, refl)),
+  ),
+)
+
+module _ (held : Names) (side : Side) (prefs : Option Operand) (work : Operand) (files : List Operand) (h : HoldRebase held prefs work files) where
+  abbrev nets : List (List Change)
+  nets = net_sets (all_commands h.sets)
+
+  abbrev logs : List ReadLog
+  logs = as_logs (read_of h.log) (reads_of h.sets) (canonical (composition (nets_of (reads_of h.sets))))
+
+  logs_are : commands_of logs ≡ rebase_logs h.log.commands nets
+  logs_are = ap (λ l. h.log.commands ∷ (canonical (composition (net_sets l)) ∷ [])) (same_commands h.sets)
+
+  abbrev AreRebased : List (List Change) → Type 0
+  AreRebased l = AllChange l × HasCommonTree l × (side_number side - 1 < length l) × (first_fault (net_sets l) h.rules ≡ None)
+
+  work_changes : all_change h.log.commands ≡ true
+  work_changes = all_change_held held (work ∷ files) (h.log ∷ h.sets) h.hold.texts h.log.commands (inl refl)
+
+  logs_change : AllChange (rebase_logs h.log.commands nets)
+  logs_change log (inl is) = subst (λ l. all_change l ≡ true) (sym is) work_changes
+  logs_change log (inr (inl is)) = subst (λ l. all_change l ≡ true) (sym is) (all_change-canonical (chain_list nets))
+  logs_change log (inr (inr none)) = absurd none
+
+  two : (side : Side) → side_number side - 1 < 2
+  two Tree = omega arith
+  two NextRound = omega arith
+
+  are_rebased : AreRebased (commands_of logs)
+  are_rebased = subst AreRebased (sym logs_are) (logs_change, h.common, two side, h.named)
+
+  work_taken : IsTaken h.log.commands
+  work_taken = record { map = h.common.map; tree = h.common.common.tree; takes = h.common.common.takes h.log.commands (inl refl) }
+
+  abbrev Rest : ReadLog → List ReadLog → List ℕ → Type 0
+  Rest read reads text = IsRebased side (preference_word prefs) h.rules work.place files read reads (Ok text)
+
+  rebase_right : (text : List ℕ) × IsRebase side prefs work files held false (Ok text)
+  rebase_right =
+      let read = logs_read held (work ∷ files) (h.log ∷ h.sets) FULL_ALLOWANCE h.hold.texts h.hold.bytes h.hold.commands in
+      let found = transitioned (side_number side) (preference_word prefs) h.rules logs are_rebased.0 are_rebased.1 are_rebased.2 are_rebased.3 in (
+        found.0,
+        inr (
+          h.rules,
+          preferences_read held prefs h.rules h.prefer,
+          of_read (found.0) read (
+              inr (
+                read_of h.log,
+                (refl, work_taken),
+                inr (
+                  reads_of h.sets,
+                  (refl, each_read h.sets h.each),
+                  inr (
+                    canonical (composition (nets_of (reads_of h.sets))),
+                    composed_right files h.sets h.follow,
+                    inr (logs, (refl, are_rebased.1), found.1),
+                  ),
+                ),
+              )),
+        ),
+      )
+    where
+      of_read : (text : List ℕ) → IsLogs FULL_ALLOWANCE (work ∷ files) held false (Ok (read_of h.log ∷ reads_of h.sets)) → Rest (read_of h.log) (reads_of h.sets) text →
+          IsRebaseOf side (preference_word prefs) h.rules work files held false (Ok text)
+      of_read text (inl r) rest = absurd (ok_no_err r.2)
+      of_read text (inr (read, p, inl r)) rest = absurd (ok_no_err r.2)
+      of_read text (inr (read, p, inr (reads, q, e))) rest =
+          let same : ◌≡◌ {A = List ReadLog} (read_of h.log ∷ reads_of h.sets) (read ∷ reads) = ok_is e in
+          let first : read_of h.log ≡ read = cc (same) in
+          let others : reads_of h.sets ≡ reads = cc (same) in
+          inr (read, p, inr (reads, q, subst (λ r. Rest r reads text) first (subst (λ rs. Rest (read_of h.log) rs text) others rest)))
 
 -- ---- clashes
 
@@ -144,6 +255,33 @@ no_clash_refusal held files r h (inr (reads, l, inl (s, j, e))) =
     let same = ok_is (logs_one FULL_ALLOWANCE files held (Ok reads) (Ok (reads_of h.logs)) l (logs_read held files h.logs FULL_ALLOWANCE h.hold.texts h.hold.bytes h.hold.commands)) in
     ok_no_err (joined_one files (reads_of h.logs) (Ok (reads_of h.logs)) (Err s) (joined_read files h.logs h.common) (subst (λ l. IsJoined files l (Err s)) same j))
 no_clash_refusal held files r h (inr (reads, l, inr (joined, j, never))) = never
+
+-- ---- reasons
+
+err_is : {r s : Refusal} → ◌≡◌ {A = Result Output Refusal} (Err r) (Err s) → r ≡ s
+err_is e = cc
+
+no_reason_refusal : (held : Names) (prefs : Option Operand) (files : List Operand) (r : Refusal) → HoldJoin held prefs files → IsExplain prefs files held false (Err r) → ⊥
+no_reason_refusal held prefs files r h e = let right = merge_right held prefs files h in ok_no_err (merge_one prefs files held (Ok right.0) (Err r) right.1 (merge_refused e))
+  where
+    turned : {s : Refusal} → ◌≡◌ {A = Result Output Refusal} (Err r) (Err s) → ◌≡◌ {A = Result (List ℕ) Refusal} (Err r) (Err s)
+    turned e = let same = err_is e in ap Err same
+
+    -- what refuses the reasons of the merger refuses the merger
+    merge_refused : IsExplain prefs files held false (Err r) → IsMerge prefs files held false (Err r)
+    merge_refused (inl h) = inl (h.0, h.1, turned h.2)
+    merge_refused (inr (rules, p, inl h)) = inr (rules, p, inl (h.0, h.1, turned h.2))
+    merge_refused (inr (rules, p, inr (reads, l, inl h))) = inr (rules, p, inr (reads, l, inl (h.0, h.1, turned h.2)))
+    merge_refused (inr (rules, p, inr (reads, l, inr (joined, j, inl h)))) = inr (rules, p, inr (reads, l, inr (joined, j, inl (h.0, h.1, turned h.2))))
+    merge_refused (inr (rules, p, inr (reads, l, inr (joined, j, inr (same, s, never))))) = absurd never
+
+-- they are printed with status 0
+explained_status : (held : Names) (prefs : Option Operand) (files : List Operand) (output : Output) → IsExplain prefs files held false (Ok output) → status_in output ≡ 0
+explained_status held prefs files output (inl h) = absurd (ok_no_err h.2)
+explained_status held prefs files output (inr (rules, p, inl h)) = absurd (ok_no_err h.2)
+explained_status held prefs files output (inr (rules, p, inr (reads, l, inl h))) = absurd (ok_no_err h.2)
+explained_status held prefs files output (inr (rules, p, inr (reads, l, inr (joined, j, inl h)))) = absurd (ok_no_err h.2)
+explained_status held prefs files output (inr (rules, p, inr (reads, l, inr (joined, j, inr (same, s, a))))) = ap status_in a.4
 
 -- ---- each job
 
@@ -160,6 +298,14 @@ module _ (words : List Text) (before now : Outside) (status : ℕ) (ran : Ran wo
     where
       by : ((output : Output) × IsConflicts files m.held false (Ok output) × (status ≡ status_in output)) ⊎ (status ≡ 16) → (status ≤ 1) ⊎ (status ≡ 16)
       by (inl (output, a, z)) = inl (omega (arith, z, low_status output))
+      by (inr z) = inr z
+
+  lists_reasons : (prefs : Option Operand) (files : List Operand) → job_of words ≡ Some (Explain prefs files) → HoldJoin m.held prefs files → (status ≡ 0) ⊎ (status ≡ 16)
+  lists_reasons prefs files e h =
+      by (completes_of words before now status ran m (IsExplain prefs files) (λ answer a. job_answer words (Explain prefs files) (held_tree before.trees) m.held answer e a) known (λ r. no_reason_refusal m.held prefs files r h) (no_calls before now alone files_quiet) out_quiet)
+    where
+      by : ((output : Output) × IsExplain prefs files m.held false (Ok output) × (status ≡ status_in output)) ⊎ (status ≡ 16) → (status ≡ 0) ⊎ (status ≡ 16)
+      by (inl (output, a, z)) = inl (z ∙ explained_status m.held prefs files output a)
       by (inr z) = inr z
 
   sums_up : (seed logs steps : ℕ) → job_of words ≡ Some (Drill seed logs steps) → (status ≡ 0) ⊎ (status ≡ 16)
@@ -185,7 +331,12 @@ module _ (words : List Text) (before now : Outside) (status : ℕ) (ran : Ran wo
   of_job (Record folder file) e few h = absurd h
   of_job (Seal folder file) e few h = absurd h
   of_job (Apply folder file) e few h = absurd h
+  of_job (Sync prefs folders files) e few h = absurd h
   of_job (Drill seed logs steps) e few h = sums_up seed logs steps e
+  of_job (Explain prefs files) e few h = lists_reasons prefs files e h
+  of_job (Undo file) e few h = prints_text (Undo file) (IsUndo file.place file.text) e refl (undo_one file.place file.text) (undo_right m.held file h)
+  of_job (Catchup files) e few h = prints_text (Catchup files) (IsCatchup files) e refl (catchup_one files) (catchup_right m.held files h)
+  of_job (Rebase side prefs work files) e few h = prints_text (Rebase side prefs work files) (IsRebase side prefs work files) e refl (rebase_one side prefs work files) (rebase_right m.held side prefs work files h)
 
 pub completes_job : (words : List Text) (before now : Outside) (status : ℕ) → Ran words before now status → ((job : Job) → job_of words ≡ Some job → job_folders job ≡ [] → before.trees ≡ []) → CompletesJob words before now status
 completes_job words before now status ran alone job m e known met files_quiet out_quiet = by job e met
@@ -194,7 +345,13 @@ completes_job words before now status ran alone job m e known met files_quiet ou
     by (Record folder file) f h = absurd h
     by (Seal folder file) f h = absurd h
     by (Apply folder file) f h = absurd h
+    by (Sync prefs folders files) f h = absurd h
     by (Drill seed logs steps) f h = of_job words before now status ran (alone (Drill seed logs steps) f refl) m known files_quiet out_quiet (Drill seed logs steps) f (few_logs words (Drill seed logs steps) f) h
+    by (Explain prefs files) f h = of_job words before now status ran (alone (Explain prefs files) f refl) m known files_quiet out_quiet (Explain prefs files) f (few_logs words (Explain prefs files) f) h
+    by (Undo file) f h = of_job words before now status ran (alone (Undo file) f refl) m known files_quiet out_quiet (Undo file) f (few_logs words (Undo file) f) h
+    by (Catchup files) f h = of_job words before now status ran (alone (Catchup files) f refl) m known files_quiet out_quiet (Catchup files) f (few_logs words (Catchup files) f) h
+    by (Rebase side prefs work files) f h =
+        of_job words before now status ran (alone (Rebase side prefs work files) f refl) m known files_quiet out_quiet (Rebase side prefs work files) f (few_logs words (Rebase side prefs work files) f) h
     by Help f h = of_job words before now status ran (alone Help f refl) m known files_quiet out_quiet Help f (few_logs words Help f) h
     by (Replay snap log) f h = of_job words before now status ran (alone (Replay snap log) f refl) m known files_quiet out_quiet (Replay snap log) f (few_logs words (Replay snap log) f) h
     by (Canon log) f h = of_job words before now status ran (alone (Canon log) f refl) m known files_quiet out_quiet (Canon log) f (few_logs words (Canon log) f) h

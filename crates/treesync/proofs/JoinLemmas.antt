@@ -171,7 +171,7 @@ all_dropped (x ∷ xs) (suc i) h = all_dropped xs i (omega arith)
 
 -- ---- the sums
 
-taken_here : (reads : List ReadLog) (i : ℕ) (read : ReadLog) → drop i reads ≡ read ∷ drop (suc i) reads → take (suc i) reads ≡ take i reads ++ read ∷ []
+pub taken_here : {A : Type 0} (reads : List A) (i : ℕ) (read : A) → drop i reads ≡ read ∷ drop (suc i) reads → take (suc i) reads ≡ take i reads ++ read ∷ []
 taken_here [] zero read e = absurd (cc)
 taken_here [] (suc i) read e = absurd (cc)
 taken_here (r ∷ reads) zero read e = let s : r ≡ read = cc in ap (λ x. x ∷ []) s
@@ -249,7 +249,7 @@ stands_long stands [] (a ∷ rest) h = absurd h
 stands_long stands (x ∷ xs) [] h = absurd h
 stands_long stands (x ∷ xs) (a ∷ rest) h = ap suc (stands_long stands xs rest h.1)
 
-take_whole : {A : Type 0} (xs : List A) (n : ℕ) → length xs ≤ n → take n xs ≡ xs
+pub take_whole : {A : Type 0} (xs : List A) (n : ℕ) → length xs ≤ n → take n xs ≡ xs
 take_whole [] zero h = refl
 take_whole [] (suc n) h = refl
 take_whole (x ∷ xs) zero h = absurd (omega arith)
@@ -263,7 +263,7 @@ all_sums logs n sums files reads low soFar h =
 
 -- ---- joined logs
 
-are_printable : (logs : List (LogFile Total)) (reads : List ReadLog) → EachStands (IsLogFile IsTotal) logs reads → ArePrintable reads
+pub are_printable : (logs : List (LogFile Total)) (reads : List ReadLog) → EachStands (IsLogFile IsTotal) logs reads → ArePrintable reads
 are_printable [] [] h = tt
 are_printable [] (r ∷ reads) h = absurd h
 are_printable (l ∷ logs) [] h = absurd h

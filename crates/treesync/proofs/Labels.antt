@@ -18,7 +18,7 @@ use Rattle.sync_command.specs.declared.values.Value.TheVariants.{Empty}
 use Rattle.sync_command.specs.declared.values.Version.{Version}
 use Rattle.sync_command.specs.declared.values.Version.TheVariants.{One, Two}
 use Rattle.sync_command.specs.Values.{is_of_version}
-use Rattle.sync_command.specs.Changes.{Change, goes_before}
+use Rattle.sync_command.specs.Changes.{Change, goes_before, inverse}
 use Rattle.sync_command.specs.Maps.{Store, at, stored, value_or_empty}
 use Rattle.sync_command.specs.Trees.{Holding, command_at, new_or, put, result_of}
 use Rattle.sync_command.proofs.CallerLemmas.{at-stored}
@@ -151,7 +151,7 @@ module _ (P : Change → Type 0) where
   each_put_in c [] p h = (p, tt)
   each_put_in c (d ∷ ds) p h = put_or_later (goes_before c d) (c ∷ (d ∷ ds)) (d ∷ put_in c ds) (p, h) (h.0, each_put_in c ds p h.1)
 
-  each_canonical : (cs : List Change) → AllByRecursion P cs → AllByRecursion P (canonical cs)
+  pub each_canonical : (cs : List Change) → AllByRecursion P cs → AllByRecursion P (canonical cs)
   each_canonical [] h = tt
   each_canonical (c ∷ cs) h = each_put_in c (canonical cs) h.0 (each_canonical cs h.1)
 
@@ -173,3 +173,11 @@ touches_of version (c ∷ cs) h =
 -- the net set of a log can be printed in the log's version
 pub net_printable : (version : Version) (cs : List Change) → AllByRecursion (IsOfVersion version) cs → AllByRecursion (IsOfVersion version) (canonical (net cs))
 net_printable version cs h = each_canonical (IsOfVersion version) (net cs) (each_filtered (IsOfVersion version) _ (touches cs) (touches_of version cs h))
+
+-- and so can the inverse of a set that can
+pub inverse_printable : (version : Version) (cs : List Change) → AllByRecursion (IsOfVersion version) cs → AllByRecursion (IsOfVersion version) (canonical (map inverse cs))
+inverse_printable version cs h = each_canonical (IsOfVersion version) (map inverse cs) (turned cs h)
+  where
+    turned : (cs : List Change) → AllByRecursion (IsOfVersion version) cs → AllByRecursion (IsOfVersion version) (map inverse cs)
+    turned [] h = tt
+    turned (c ∷ cs) h = (record { old = h.0.new; new = h.0.old }, turned cs h.1)

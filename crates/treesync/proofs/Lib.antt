@@ -25,9 +25,15 @@ pub mod HeadlineLemmas
 pub mod TransitionHeadline
 pub mod SteerHeadline
 pub mod Completing
+pub mod SetHeadlines
 pub mod Recordings
+pub mod Syncing
+pub mod RoundHeadlines
 pub mod Running
 pub mod ApplyHeadline
 pub mod ConflictHeadline
 pub mod Jobs
+pub mod Catching
+pub mod Rebasing
+pub mod Explaining
 pub mod Unique

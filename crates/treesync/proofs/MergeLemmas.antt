@@ -24,7 +24,7 @@ use Rattle.treesync.proofs.Labels.{first_of, net_printable, second_of}
 -- ---- each command of a set
 
 module _ (P : Change → Type 0) where
-  each_append : (cs ds : List Change) → AllByRecursion P cs → AllByRecursion P ds → AllByRecursion P (cs ++ ds)
+  pub each_append : (cs ds : List Change) → AllByRecursion P cs → AllByRecursion P ds → AllByRecursion P (cs ++ ds)
   each_append [] ds h g = g
   each_append (c ∷ cs) ds h g = (h.0, each_append cs ds h.1 g)
 
@@ -49,11 +49,11 @@ module _ (P : Change → Type 0) where
 
 -- ---- versions
 
-of_first : (v w : Version) (cs : List Change) → AllByRecursion (IsOfVersion v) cs → AllByRecursion (IsOfVersion (later_version v w)) cs
+pub of_first : (v w : Version) (cs : List Change) → AllByRecursion (IsOfVersion v) cs → AllByRecursion (IsOfVersion (later_version v w)) cs
 of_first v w [] h = tt
 of_first v w (c ∷ cs) h = (record { old = first_of v w c.old h.0.old; new = first_of v w c.new h.0.new }, of_first v w cs h.1)
 
-of_second : (v w : Version) (cs : List Change) → AllByRecursion (IsOfVersion w) cs → AllByRecursion (IsOfVersion (later_version v w)) cs
+pub of_second : (v w : Version) (cs : List Change) → AllByRecursion (IsOfVersion w) cs → AllByRecursion (IsOfVersion (later_version v w)) cs
 of_second v w [] h = tt
 of_second v w (c ∷ cs) h = (record { old = second_of v w c.old h.0.old; new = second_of v w c.new h.0.new }, of_second v w cs h.1)
 
@@ -71,11 +71,11 @@ drawn_printable reads cs h part =
 
 -- ---- a merger
 
-canonical_same : (cs : List Change) → is_canonical cs ≡ true → one_each cs ≡ true → cs ≡ canonical cs
+pub canonical_same : (cs : List Change) → is_canonical cs ≡ true → one_each cs ≡ true → cs ≡ canonical cs
 canonical_same cs order one = canonical_unique cs (canonical cs) order (is_canonical-canonical cs one) one (one_each-canonical cs one) (λ p. sym (command_at-canonical cs one p))
 
 module _ (joined : JoinedLogs) (rules : List Rule) (set : List Change) (first : IsFirstMergerOf joined.joint rules set) (reads : List ReadLog) (h : AreJoined joined reads) where
-  first_for : IsFirstMergerFor (commands_of reads) rules set
+  pub first_for : IsFirstMergerFor (commands_of reads) rules set
   first_for m common = first (commands_of reads) m h.joint common
 
   pub merger_printable : AllByRecursion (IsOfVersion joined.version) set

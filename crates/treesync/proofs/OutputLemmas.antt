@@ -1,13 +1,15 @@
 -- Outputs: what stands for them, and how they are printed.
 use Rattle.std.proofs.Common.{◌≡◌, ◌⊎◌, ◌≤◌, false, ℕ, List, [], ◌∷◌, Option, None, Some, Result, Ok, Err, Vec, Global, inl, inr, refl, sym, subst, arith}
 use Rattle.refluent.specs.Joints.{Joined}
+use Rattle.sync_command.specs.Changes.{Change}
 use Rattle.sync_port.specs.States.{FaultCounted}
 use Rattle.sync_port.specs.Ports.{FileContents, FilesState, Names, SinkState}
-use Rattle.treesync.specs.Answering.{StandsForOutput, of_joint, of_text}
+use Rattle.treesync.specs.Answering.{StandsForOutput, of_explained, of_joint, of_text}
 use Rattle.treesync.specs.Checks.{Answers, Causes, Check, FilesCounted, HasItems, IsAllowed, IsJudged, Judged}
 use Rattle.treesync.specs.Conflicts.{ShowsClashes}
 use Rattle.treesync.specs.Ends.{EndsWith}
-use Rattle.treesync.specs.Outputs.{AsText, ClashLines, Output, WholeText, status_in}
+use Rattle.treesync.specs.Explain.{ShowsReasons}
+use Rattle.treesync.specs.Outputs.{AsText, ClashLines, Output, ReasonLines, WholeText, status_in}
 use Rattle.treesync.specs.declared.answer.Answer.{Answer}
 use Rattle.treesync.specs.declared.refusal.Refusal.{Refusal}
 use Rattle.treesync.proofs.CheckLemmas.{alike_refused, judged_alone, then_refused}
@@ -53,6 +55,21 @@ pub answers_joint : (P : Check Output) (limits : List ℕ) (before now : FilesSt
     Answers StandsForOutput P limits before now result
 answers_joint P limits before now found result e a = subst (Answers StandsForOutput P limits before now) (sym e) (joint_answers P limits before now found a)
 
+explained_answers : (P : Check Output) (limits : List ℕ) (before now : FilesState) (found : Result (Joined × List Change) Refusal) → Answers ShowsReasons P limits before now found → Answers StandsForOutput P limits before now (of_explained found)
+explained_answers P limits before now (Ok explained) a = record {
+  later = a.later;
+  quiet = a.quiet;
+  reads = a.reads;
+  allowed = (a.allowed.0, sym a.allowed.1, a.allowed.2);
+  job = tt;
+}
+explained_answers P limits before now (Err r) a = alike_refused ShowsReasons StandsForOutput P limits before now r a
+
+-- the answer of a command that lists reasons
+pub answers_explained : (P : Check Output) (limits : List ℕ) (before now : FilesState) (found : Result (Joined × List Change) Refusal) (result : Result Answer Refusal) → result ≡ of_explained found → Answers ShowsReasons P limits before now found →
+    Answers StandsForOutput P limits before now result
+answers_explained P limits before now found result e a = subst (Answers StandsForOutput P limits before now) (sym e) (explained_answers P limits before now found a)
+
 -- the answer of a command that opens no file
 pub answers_alone : (Q : Result (List ℕ) Refusal → Type 0) (state : FilesState) (found : Result (Vec ℕ Global) Refusal) (result : Result Answer Refusal) → result ≡ of_text found → IsJudged HasItems Q found →
     Answers StandsForOutput (AsText (Judged Q)) [] state state result
@@ -67,6 +84,7 @@ as_text P held output (inr h) = (h.0, h.1, ok_is h.2)
 
 pub low_status : (output : Output) → status_in output ≤ 1
 low_status (WholeText text) = omega arith
+low_status (ReasonLines lines) = omega arith
 low_status (ClashLines []) = omega arith
 low_status (ClashLines (line ∷ lines)) = omega arith
 
@@ -81,6 +99,9 @@ three (WholeText text) status before now (inr h) = inr (inl h)
 three (ClashLines lines) status before now (inl (inl h)) = inl h
 three (ClashLines lines) status before now (inl (inr h)) = inr (inl h)
 three (ClashLines lines) status before now (inr h) = inr (inr h)
+three (ReasonLines lines) status before now (inl (inl h)) = inl h
+three (ReasonLines lines) status before now (inl (inr h)) = inr (inl h)
+three (ReasonLines lines) status before now (inr h) = inr (inr h)
 
 -- with a status of a whole output
 whole_of : (output : Output) (status : ℕ) (before now : SinkState) → status ≤ 1 → Three output status before now → (status ≡ status_in output) × (now.faults ≡ before.faults)

@@ -5,7 +5,7 @@ use Rattle.tool_words.specs.Jobs.{job_of}
 use Rattle.tool_words.specs.Trees.{asked_folders, folder_places, job_folders}
 use Rattle.tool_words.specs.Words.{Operand, Text, places_of}
 use Rattle.tool_words.specs.declared.job.Job.{Job}
-use Rattle.tool_words.specs.declared.job.Job.TheVariants.{Help, Replay, Canon, Conflicts, Merge, Transition, Steer, Record, Seal, Apply, Drill}
+use Rattle.tool_words.specs.declared.job.Job.TheVariants.{Help, Replay, Canon, Conflicts, Merge, Transition, Steer, Record, Seal, Apply, Drill, Sync, Explain, Undo, Catchup, Rebase}
 use Rattle.tool_words.specs.declared.job.WordFault.{WordFault}
 use Rattle.tool_words.specs.declared.job.WordFault.TheVariants as word
 use Rattle.treesync.specs.Completeness.{CompletesJob, IsMet}
@@ -14,6 +14,7 @@ use Rattle.treesync.specs.Headline.{KeepsUnready, PrintsApplied, PrintsMerger, P
 use Rattle.treesync.specs.Jobs.{Inputs, Keeps, Outside, Ran, inputs_of}
 use Rattle.treesync.specs.Messages.{message_of}
 use Rattle.treesync.specs.Runs.{EndsRight, IsAnswered, Runs, RunsJob, words_refusal}
+use Rattle.treesync.specs.SetHeadline.{PrintsCatchup, PrintsReasons, PrintsRebase, PrintsUndo}
 use Rattle.treesync.specs.declared.refusal.Refusal.{Refusal}
 use Rattle.treesync.specs.declared.refusal.Refusal.TheVariants.{OutOfMemory}
 use Rattle.treesync.proofs.ApplyHeadline.{keeps_unready, prints_applied, resumes_apply}
@@ -21,7 +22,9 @@ use Rattle.treesync.proofs.Completing.{completes_job}
 use Rattle.treesync.proofs.ConflictHeadline.{tells_clashes}
 use Rattle.treesync.proofs.HeadlineLemmas.{prints_merger, prints_steered}
 use Rattle.treesync.proofs.Recordings.{unread}
+use Rattle.treesync.proofs.Syncing.{unread_round}
 use Rattle.treesync.proofs.SealHeadline.{prints_sealed}
+use Rattle.treesync.proofs.SetHeadlines.{prints_catchup, prints_reasons, prints_rebase, prints_undo}
 use Rattle.treesync.proofs.SteerHeadline.{prints_rules}
 use Rattle.treesync.proofs.TransitionHeadline.{prints_transition}
 use Rattle.treesync.proofs.Words.{FindsOutput, Outcome, found_allowed, found_later, found_reads, found_trees, no_job, no_job_means, no_memory, none_failed, refused_means, seen_output, trees_later}
@@ -32,6 +35,7 @@ use Rattle.treesync.proofs.Words.{FindsOutput, Outcome, found_allowed, found_lat
 module _ (words : List Text) (before now : Outside) (status : ℕ) where
   answered_job : (job : Job) → IsAnswered job → RunsJob (Some job) words before now status → Ran words before now status
   answered_job (Record folder file) answered ran = absurd answered
+  answered_job (Sync prefs folders logs) answered ran = absurd answered
   answered_job Help answered ran = ran
   answered_job (Replay snap log) answered ran = ran
   answered_job (Canon log) answered ran = ran
@@ -42,9 +46,14 @@ module _ (words : List Text) (before now : Outside) (status : ℕ) where
   answered_job (Seal folder file) answered ran = ran
   answered_job (Apply folder file) answered ran = ran
   answered_job (Drill seed logs steps) answered ran = ran
+  answered_job (Explain prefs logs) answered ran = ran
+  answered_job (Undo set) answered ran = ran
+  answered_job (Catchup sets) answered ran = ran
+  answered_job (Rebase side prefs work sets) answered ran = ran
 
   runs_job : (job : Job) → IsAnswered job → Ran words before now status → RunsJob (Some job) words before now status
   runs_job (Record folder file) answered ran = absurd answered
+  runs_job (Sync prefs folders logs) answered ran = absurd answered
   runs_job Help answered ran = ran
   runs_job (Replay snap log) answered ran = ran
   runs_job (Canon log) answered ran = ran
@@ -55,6 +64,10 @@ module _ (words : List Text) (before now : Outside) (status : ℕ) where
   runs_job (Seal folder file) answered ran = ran
   runs_job (Apply folder file) answered ran = ran
   runs_job (Drill seed logs steps) answered ran = ran
+  runs_job (Explain prefs logs) answered ran = ran
+  runs_job (Undo set) answered ran = ran
+  runs_job (Catchup sets) answered ran = ran
+  runs_job (Rebase side prefs work sets) answered ran = ran
 
   answered : (job : Job) → job_of words ≡ Some job → IsAnswered job → Runs words before now status → Ran words before now status
   answered job e is runs = answered_job job is (subst (λ j. RunsJob j words before now status) e runs.does)
@@ -72,6 +85,18 @@ module _ (words : List Text) (before now : Outside) (status : ℕ) where
 
   pub runs_rules : Runs words before now status → PrintsRules words before now status
   runs_rules runs file files m e = prints_rules words before now status (answered (Steer file files) e tt runs) file files m e
+
+  pub runs_undo : Runs words before now status → PrintsUndo words before now status
+  runs_undo runs file m e = prints_undo words before now status (answered (Undo file) e tt runs) file m e
+
+  pub runs_catchup : Runs words before now status → PrintsCatchup words before now status
+  runs_catchup runs files m e = prints_catchup words before now status (answered (Catchup files) e tt runs) files m e
+
+  pub runs_rebase : Runs words before now status → PrintsRebase words before now status
+  runs_rebase runs side prefs work files m e = prints_rebase words before now status (answered (Rebase side prefs work files) e tt runs) side prefs work files m e
+
+  pub runs_reasons : Runs words before now status → PrintsReasons words before now status
+  runs_reasons runs prefs files m e = prints_reasons words before now status (answered (Explain prefs files) e tt runs) prefs files m e
 
   pub runs_applied : Runs words before now status → PrintsApplied words before now status
   runs_applied runs folder file m set tree e = prints_applied words before now status (answered (Apply folder file) e tt runs) folder file m set tree e
@@ -94,6 +119,7 @@ module _ (words : List Text) (before now : Outside) (status : ℕ) where
     where
       is_answered : (job : Job) (held : Names) → IsMet job held → IsAnswered job
       is_answered (Record folder file) held met = absurd met
+      is_answered (Sync prefs folders logs) held met = absurd met
       is_answered Help held met = tt
       is_answered (Replay snap log) held met = tt
       is_answered (Canon log) held met = tt
@@ -104,6 +130,10 @@ module _ (words : List Text) (before now : Outside) (status : ℕ) where
       is_answered (Seal folder file) held met = tt
       is_answered (Apply folder file) held met = tt
       is_answered (Drill seed logs steps) held met = tt
+      is_answered (Explain prefs logs) held met = tt
+      is_answered (Undo set) held met = tt
+      is_answered (Catchup sets) held met = tt
+      is_answered (Rebase side prefs work sets) held met = tt
 
   -- ---- an answer that was found
 
@@ -167,6 +197,11 @@ module _ (words : List Text) (before now : Outside) (status : ℕ) (fault : Word
           memory : (fault : WordFault) → (fault ≡ word.Refused → job_of words ≡ None) → words_refusal fault ≡ OutOfMemory
           memory word.Refused none = absurd (cc (e, none refl))
           memory word.Memory none = refl
+      go (Some (Sync prefs folders logs)) e = unread_round prefs folders logs words before now status (memory fault none) same prints says
+        where
+          memory : (fault : WordFault) → (fault ≡ word.Refused → job_of words ≡ None) → words_refusal fault ≡ OutOfMemory
+          memory word.Refused none = absurd (cc (e, none refl))
+          memory word.Memory none = refl
       go None e = ran
       go (Some Help) e = ran
       go (Some (Replay snap log)) e = ran
@@ -178,6 +213,10 @@ module _ (words : List Text) (before now : Outside) (status : ℕ) (fault : Word
       go (Some (Seal folder file)) e = ran
       go (Some (Apply folder file)) e = ran
       go (Some (Drill seed logs steps)) e = ran
+      go (Some (Explain prefs logs)) e = ran
+      go (Some (Undo set)) e = ran
+      go (Some (Catchup sets)) e = ran
+      go (Some (Rebase side prefs work sets)) e = ran
 
   pub refused_keeps : before.out.faults ≤ now.out.faults → before.err.faults ≤ now.err.faults → Keeps words before now
   refused_keeps out err = found_keeps words before now status (Err (words_refusal fault)) finds prints out err
@@ -185,19 +224,24 @@ module _ (words : List Text) (before now : Outside) (status : ℕ) (fault : Word
   pub refused_ends : EndsRight (job_of words) before now status
   refused_ends = found_ends words before now status (Err (words_refusal fault)) finds prints
 
--- a job that is no recording finds its answer first
-pub answered_by : (job : Job) → ((folder file : Operand) → job ≡ Record folder file → ⊥) → IsAnswered job
-answered_by (Record folder file) other = absurd (other folder file refl)
-answered_by Help other = tt
-answered_by (Replay snap log) other = tt
-answered_by (Canon log) other = tt
-answered_by (Conflicts logs) other = tt
-answered_by (Merge prefs logs) other = tt
-answered_by (Transition number prefs logs) other = tt
-answered_by (Steer set logs) other = tt
-answered_by (Seal folder file) other = tt
-answered_by (Apply folder file) other = tt
-answered_by (Drill seed logs steps) other = tt
+-- a job that is no recording and no round finds its answer over one tree at most
+pub answered_by : (job : Job) → ((folder file : Operand) → job ≡ Record folder file → ⊥) → ((prefs : Option Operand) (folders files : List Operand) → job ≡ Sync prefs folders files → ⊥) → IsAnswered job
+answered_by (Record folder file) other round = absurd (other folder file refl)
+answered_by (Sync prefs folders files) other round = absurd (round prefs folders files refl)
+answered_by Help other round = tt
+answered_by (Replay snap log) other round = tt
+answered_by (Canon log) other round = tt
+answered_by (Conflicts logs) other round = tt
+answered_by (Merge prefs logs) other round = tt
+answered_by (Transition number prefs logs) other round = tt
+answered_by (Steer set logs) other round = tt
+answered_by (Seal folder file) other round = tt
+answered_by (Apply folder file) other round = tt
+answered_by (Drill seed logs steps) other round = tt
+answered_by (Explain prefs logs) other round = tt
+answered_by (Undo set) other round = tt
+answered_by (Catchup sets) other round = tt
+answered_by (Rebase side prefs work sets) other round = tt
 
 -- the words of a job have as many trees as it names folders, and those of a recording one
 pub folders_of_job : (words : List Text) (job : Job) → job_of words ≡ Some job → length (folder_places words) ≡ length (job_folders job)
@@ -209,3 +253,6 @@ folders_of_job words job e = ap (λ j. length (places_of (asked_folders j))) e �
 
 pub one_tree : (words : List Text) (job : Job) (folder file : Operand) → job_of words ≡ Some job → job ≡ Record folder file → length (folder_places words) ≡ 1
 one_tree words job folder file e is = folders_of_job words job e ∙ ap (λ j. length (job_folders j)) is
+
+pub round_trees : (words : List Text) (job : Job) (prefs : Option Operand) (folders files : List Operand) → job_of words ≡ Some job → job ≡ Sync prefs folders files → length (folder_places words) ≡ length folders
+round_trees words job prefs folders files e is = folders_of_job words job e ∙ ap (λ j. length (job_folders j)) is

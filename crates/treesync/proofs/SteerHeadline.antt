@@ -22,7 +22,7 @@ use Rattle.treesync.proofs.HeldLogs.{held_log, held_logs, log_read, logs_read, o
 
 -- ---- one log
 
-one_log : (held : Names) (file : Operand) (log : Recorded) → held file.text ≡ Some (text_of log) → IsLog log.version log.commands → length (text_of log) ≤ FILE_LIMIT → length log.commands ≤ MAX_COMMANDS →
+pub one_log : (held : Names) (file : Operand) (log : Recorded) → held file.text ≡ Some (text_of log) → IsLog log.version log.commands → length (text_of log) ≤ FILE_LIMIT → length log.commands ≤ MAX_COMMANDS →
     HoldLogs held (file ∷ []) (log ∷ [])
 one_log held file log text is bytes commands = record {
   texts = (text, is, tt);

@@ -59,7 +59,7 @@ takes_at t [] takes i = tt
 takes_at t (log ∷ logs) takes zero = takes log (inl refl)
 takes_at t (log ∷ logs) takes (suc i) = takes_at t logs (λ l among. takes l (inr among)) i
 
-leads_to : (logs : List (List Change)) (rules : List Rule) (number : ℕ) (merger set other : List Change) → IsFirstMergerFor logs rules merger → IsTransitionFor logs number merger set → IsFirstMergerFor logs rules other → LeadsToMerger logs number set other
+pub leads_to : (logs : List (List Change)) (rules : List Rule) (number : ℕ) (merger set other : List Change) → IsFirstMergerFor logs rules merger → IsTransitionFor logs number merger set → IsFirstMergerFor logs rules other → LeadsToMerger logs number set other
 leads_to logs rules number merger set other first is second m common =
     let here = first m common in
     let there = second m common in

@@ -29,7 +29,7 @@ use Rattle.sync_command.specs.declared.values.Version.{Version}
 use Rattle.log_text.specs.Snapshots.{snapshot_of}
 use Rattle.canon_set.specs.Logs.{IsTaken, net}
 use Rattle.tool_words.specs.declared.job.Job.{Job}
-use Rattle.tool_words.specs.declared.job.Job.TheVariants.{Help, Replay, Canon, Conflicts, Merge, Transition, Steer, Record, Seal, Apply, Drill}
+use Rattle.tool_words.specs.declared.job.Job.TheVariants.{Help, Replay, Canon, Conflicts, Merge, Transition, Steer, Record, Seal, Apply, Drill, Sync, Explain, Undo, Catchup, Rebase}
 use Rattle.tool_words.specs.Jobs.{job_of}
 use Rattle.sync_port.specs.Ports.{Names}
 use Rattle.treesync.specs.Checks.{Check, IsOne, Judged, Next, Then}
@@ -38,13 +38,23 @@ use Rattle.treesync.specs.Joining.{AllTaken, AreTaken, EachTaken, IsFirstUntaken
 use Rattle.refluent.specs.Joints.{Joined}
 use Rattle.tool_words.specs.Help.{help_text}
 use Rattle.treesync.specs.Conflicts.{AreClashes, IsConflicts, clash_lines}
-use Rattle.treesync.specs.Outputs.{AsText, ClashLines, WholeText}
+use Rattle.treesync.specs.Outputs.{AsText, ClashLines, Output, ReasonLines, WholeText}
+use Rattle.treesync.specs.Sync.{AreMerged, AreMergedLogs, AreMergedUnder, IsMergedBy, IsSync, IsSynced, Merged, round_answer}
+use Rattle.sync_round.specs.Rounds.{transitions}
+use Rattle.sync_round.proofs.CallerLemmas.{one_answer, one_transitions}
 use Rattle.treesync.proofs.BrokenLogs.{broken_once, first_failing, not_broken, taken_prefix, taken_shorter, takes_prefix, takes_shorter}
 use Rattle.treesync.proofs.DrillSummaries.{one_drill_text}
 use Rattle.treesync.proofs.SealedOnce.{sealing_once}
 use Rattle.treesync.proofs.JointNodes.{one_joint}
 use Rattle.treesync.proofs.SameSets.{one_list, same_at}
-use Rattle.treesync.specs.Merge.{IsMerge, IsMergeOf, IsMerged, IsMergerText}
+use Rattle.treesync.specs.Catchup.{IsCatchup, IsCaughtUp, IsComposed, nets_of, word_of}
+use Rattle.treesync.specs.Explain.{AreReasons, IsExplain, IsExplainOf, IsExplained, reason_lines}
+use Rattle.treesync.specs.Merge.{IsFirstMergerFor, IsMerge, IsMergeOf, IsMerged, IsMergerText}
+use Rattle.treesync.specs.Rebase.{IsRebase, IsRebaseOf, IsRebased, IsTakenWork, as_logs, side_number}
+use Rattle.treesync.specs.Undo.{IsUndo, IsUndoing}
+use Rattle.rounds.specs.Compositions.{inverse_set}
+use Rattle.rounds.proofs.CallerLemmas.{stop_law, stop_once_law}
+use Rattle.tool_words.specs.declared.job.Side.{Side}
 use Rattle.treesync.specs.Preferences.{ArePreferences, RulesHold, preference_word, rule_refusal}
 use Rattle.treesync.specs.Transition.{IsTransition, IsTransitionOf, IsTransitioned, IsTransitionText}
 use Rattle.transition.proofs.CallerLemmas.{canonical_merger}
@@ -65,7 +75,7 @@ use Rattle.treesync.specs.Jobs.{IsAnswer, IsAnswerOf, IsJobAnswer}
 use Rattle.treesync.specs.Replay.{IsAfter, IsRefusedAt, IsReplay}
 use Rattle.treesync.specs.declared.refusal.Refusal.{Refusal}
 use Rattle.treesync.specs.declared.refusal.Refusal.TheVariants.{Found}
-use Rattle.treesync.specs.declared.refusal.Finding.TheVariants.{Blocked, Diverged, NoCommonTree, NoTree, NotTaken}
+use Rattle.treesync.specs.declared.refusal.Finding.TheVariants.{Blocked, Diverged, NoCommonTree, NoFollow, NoTree, NotTaken}
 use Rattle.treesync.specs.Apply.{IsApplied, IsAppliedTo, IsApply, IsSetOf}
 use Rattle.resume_apply.specs.Ready.{IsReady, is_ready_value}
 use Rattle.resume_apply.specs.Preparing.{IsBlocked, IsFirstBlocked, first_diverged}
@@ -267,19 +277,21 @@ rules_one word rules reads (Ok one) (Err r) p q = absurd (cc (p.1, q.1))
 rules_one word rules reads (Err r) (Ok other) p q = absurd (cc (p.1, q.1))
 rules_one word rules reads (Err r) (Err s) p q = let same : p.0 ≡ q.0 = cc (p.1, q.1) in ap Err (p.2 ∙ ap (rule_refusal word) same ∙ sym q.2)
 
-merger_text_one : (rules : List Rule) (reads : List ReadLog) → HasCommonTree (commands_of reads) → OneOf (IsMergerText rules reads)
-merger_text_one rules reads common (Ok one) (Ok other) p q = ap Ok (p.2 ∙ ap (log_text (joint_version reads)) same ∙ sym q.2)
+-- two first mergers are one set
+same_merger : (rules : List Rule) (reads : List ReadLog) → HasCommonTree (commands_of reads) → (one other : List Change) → IsFirstMergerFor (commands_of reads) rules one → IsFirstMergerFor (commands_of reads) rules other →
+    canonical one ≡ canonical other
+same_merger rules reads common one other p q =
+    one_list one other first.merger.fits.one second.merger.fits.one
+    (one_first (at common.map) (drawn_commands (commands_of reads)) (ranking (commands_of reads) rules) one other (drawn_ranked (commands_of reads) rules) first second)
   where
-    first : IsFirstMerger (at common.map) (drawn_commands (commands_of reads)) (ranking (commands_of reads) rules) p.0
-    first = p.1 common.map common.common
+    first : IsFirstMerger (at common.map) (drawn_commands (commands_of reads)) (ranking (commands_of reads) rules) one
+    first = p common.map common.common
 
-    second : IsFirstMerger (at common.map) (drawn_commands (commands_of reads)) (ranking (commands_of reads) rules) q.0
-    second = q.1 common.map common.common
+    second : IsFirstMerger (at common.map) (drawn_commands (commands_of reads)) (ranking (commands_of reads) rules) other
+    second = q common.map common.common
 
-    same : canonical p.0 ≡ canonical q.0
-    same =
-        one_list p.0 q.0 first.merger.fits.one second.merger.fits.one
-        (one_first (at common.map) (drawn_commands (commands_of reads)) (ranking (commands_of reads) rules) p.0 q.0 (drawn_ranked (commands_of reads) rules) first second)
+merger_text_one : (rules : List Rule) (reads : List ReadLog) → HasCommonTree (commands_of reads) → OneOf (IsMergerText rules reads)
+merger_text_one rules reads common (Ok one) (Ok other) p q = ap Ok (p.2 ∙ ap (log_text (joint_version reads)) (same_merger rules reads common p.0 q.0 p.1 q.1) ∙ sym q.2)
 merger_text_one rules reads common (Ok one) (Err r) p q = absurd q
 merger_text_one rules reads common (Err r) other p q = absurd p
 
@@ -486,6 +498,127 @@ script_one file = then_one (IsFile FILE_LIMIT file.place file.text) (λ bytes. J
 record_one : (file : Operand) (tree : Store) → IsOne (IsRecord file (Some tree))
 record_one file tree = then_one (IsScript file) (λ script. Judged (IsRecordedText file.place (Some tree) script)) (script_one file) (λ script. named_one _)
 
+-- ---- what leads back from a set
+
+pub undo_one : (word : ℕ) (name : List ℕ) → IsOne (IsUndo word name)
+undo_one word name =
+    then_one (IsLog FULL_ALLOWANCE word name) (λ read. Judged (IsUndoing word read)) (log_one FULL_ALLOWANCE word name) (λ read.
+    judged_one (IsUndoing word read)
+    (next_one (IsNetSet word read) (λ set answer. answer ≡ Ok (log_text read.version (inverse_set set))) (net_set_one word read) (λ set h one other p q. p ∙ sym q)))
+
+-- ---- sets one after another
+
+composed_one : (files : List Operand) (sets : List (List Change)) → OneOf (IsComposed files sets)
+composed_one files sets (Ok one) (Ok other) p q = ap Ok (p.1 ∙ sym q.1)
+composed_one files sets (Ok one) (Err r) p q = absurd (stop_law sets q.number q.node q.stops p.0)
+composed_one files sets (Err r) (Ok other) p q = absurd (stop_law sets p.number p.node p.stops q.0)
+composed_one files sets (Err r) (Err s) p q = ap Err (p.refusal ∙ (λ i. Found (NoFollow (word i) (same.1 i))) ∙ sym q.refusal)
+  where
+    same : (p.number ≡ q.number) × (p.node ≡ q.node)
+    same = stop_once_law sets p.number q.number p.node q.node p.stops q.stops
+
+    word : p.word ≡ q.word
+    word = let e : ◌≡◌ {A = Option ℕ} (Some p.word) (Some q.word) = sym p.named ∙ ap (word_of files) same.0 ∙ q.named in cc (e)
+
+caught_up_one : (files : List Operand) (reads : List ReadLog) → OneOf (IsCaughtUp files reads)
+caught_up_one files reads =
+    next_one (EachTaken files reads) (λ taken. Next (IsComposed files (nets_of taken)) (λ set answer. answer ≡ Ok (log_text (joint_version taken) set))) (each_taken_one files reads) (λ taken t.
+    next_one (IsComposed files (nets_of taken)) (λ set answer. answer ≡ Ok (log_text (joint_version taken) set)) (composed_one files (nets_of taken)) (λ set h one other p q. p ∙ sym q))
+
+pub catchup_one : (files : List Operand) → IsOne (IsCatchup files)
+catchup_one files =
+    then_one (IsLogs FULL_ALLOWANCE files) (λ reads. Judged (IsCaughtUp files reads)) (logs_one FULL_ALLOWANCE files) (λ reads. judged_one (IsCaughtUp files reads) (caught_up_one files reads))
+
+-- ---- work that is rebased
+
+taken_work_one : (word : ℕ) (work : ReadLog) → OneOf (IsTakenWork word work)
+taken_work_one word work (Ok one) (Ok other) p q = ap Ok (p.0 ∙ sym q.0)
+taken_work_one word work (Ok one) (Err r) p q = absurd (not_broken work.commands q.0 q.2 p.1)
+taken_work_one word work (Err r) (Ok other) p q = absurd (not_broken work.commands p.0 p.2 q.1)
+taken_work_one word work (Err r) (Err s) p q = ap Err (p.1 ∙ ap (λ n. Found (NoTree word n)) (broken_once work.commands p.0 q.0 p.2 q.2) ∙ sym q.1)
+
+module _ (side : Side) (word : ℕ) (rules : List Rule) (work_word : ℕ) (files : List Operand) where
+  rebased_one : (work : ReadLog) (reads : List ReadLog) → OneOf (IsRebased side word rules work_word files work reads)
+  rebased_one work reads =
+      next_one (IsTakenWork work_word work) _ (taken_work_one work_word work) (λ taken t.
+      next_one (EachTaken files reads) _ (each_taken_one files reads) (λ sets s.
+      next_one (IsComposed files (nets_of sets)) _ (composed_one files (nets_of sets)) (λ set c.
+      next_one (AllTaken (as_logs taken sets set)) (IsTransitioned (side_number side) word rules) (all_taken_one (as_logs taken sets set)) (λ joined j.
+      transitioned_one (side_number side) word rules joined (subst (λ rs. HasCommonTree (commands_of rs)) (sym j.0) j.1)))))
+
+rebase_of_one : (side : Side) (word : ℕ) (rules : List Rule) (work : Operand) (files : List Operand) → IsOne (IsRebaseOf side word rules work files)
+rebase_of_one side word rules work files =
+    then_one (IsLog FULL_ALLOWANCE work.place work.text) (λ read. Then (IsLogs (left_after FULL_ALLOWANCE read) files) (λ reads. Judged (IsRebased side word rules work.place files read reads))) (log_one FULL_ALLOWANCE work.place work.text) (λ read.
+    then_one (IsLogs (left_after FULL_ALLOWANCE read) files) (λ reads. Judged (IsRebased side word rules work.place files read reads)) (logs_one (left_after FULL_ALLOWANCE read) files) (λ reads.
+    judged_one (IsRebased side word rules work.place files read reads) (rebased_one side word rules work.place files read reads)))
+
+pub rebase_one : (side : Side) (prefs : Option Operand) (work : Operand) (files : List Operand) → IsOne (IsRebase side prefs work files)
+rebase_one side prefs work files =
+    then_one (ArePreferences prefs) (λ rules. IsRebaseOf side (preference_word prefs) rules work files) (preferences_one prefs) (λ rules. rebase_of_one side (preference_word prefs) rules work files)
+
+-- ---- what a merger leaves out
+
+reasons_one : (rules : List Rule) (reads : List ReadLog) → HasCommonTree (commands_of reads) → OneOf (AreReasons rules reads)
+reasons_one rules reads common (Ok one) (Ok other) p q =
+    ap Ok (p.4 ∙ (λ i. ReasonLines (reason_lines (one_joint p.0 q.0 (commands_of reads) p.2 q.2 i) (same_merger rules reads common p.1 q.1 p.3 q.3 i))) ∙ sym q.4)
+reasons_one rules reads common (Ok one) (Err r) p q = absurd q
+reasons_one rules reads common (Err r) other p q = absurd p
+
+explained_one : (word : ℕ) (rules : List Rule) (reads : List ReadLog) → HasCommonTree (commands_of reads) → OneOf (IsExplained word rules reads)
+explained_one word rules reads common =
+    next_one (RulesHold word rules reads) (AreReasons rules) (rules_one word rules reads) (λ same h. reasons_one rules same (subst (λ rs. HasCommonTree (commands_of rs)) (sym h.0) common))
+
+explain_of_one : (word : ℕ) (rules : List Rule) (files : List Operand) → IsOne (IsExplainOf word rules files)
+explain_of_one word rules files =
+    then_one (IsLogs FULL_ALLOWANCE files) (λ reads. Judged (Next (IsJoined files reads) (IsExplained word rules))) (logs_one FULL_ALLOWANCE files) (λ reads.
+    judged_one (Next (IsJoined files reads) (IsExplained word rules)) (next_one (IsJoined files reads) (IsExplained word rules) (joined_one files reads) (λ joined h. explained_one word rules joined (has_common files reads joined h))))
+
+pub explain_one : (prefs : Option Operand) (files : List Operand) → IsOne (IsExplain prefs files)
+explain_one prefs files =
+    then_one (ArePreferences prefs) (λ rules. IsExplainOf (preference_word prefs) rules files) (preferences_one prefs) (λ rules. explain_of_one (preference_word prefs) rules files)
+
+-- ---- a round
+
+merged_by_one : (rules : List Rule) (reads : List ReadLog) → HasCommonTree (commands_of reads) → OneOf (IsMergedBy rules reads)
+merged_by_one rules reads common (Ok one) (Ok other) p q = ap Ok (p.2 ∙ (λ i. record { logs = commands_of reads; merger = same_merger rules reads common p.0 q.0 p.1 q.1 i }) ∙ sym q.2)
+merged_by_one rules reads common (Ok one) (Err r) p q = absurd q
+merged_by_one rules reads common (Err r) other p q = absurd p
+
+are_merged_one : (word : ℕ) (rules : List Rule) (reads : List ReadLog) → HasCommonTree (commands_of reads) → OneOf (AreMerged word rules reads)
+are_merged_one word rules reads common =
+    next_one (RulesHold word rules reads) (IsMergedBy rules) (rules_one word rules reads) (λ same h. merged_by_one rules same (subst (λ rs. HasCommonTree (commands_of rs)) (sym h.0) common))
+
+merged_under_one : (word : ℕ) (rules : List Rule) (files : List Operand) → IsOne (AreMergedUnder word rules files)
+merged_under_one word rules files =
+    then_one (IsLogs FULL_ALLOWANCE files) (λ reads. Judged (Next (IsJoined files reads) (AreMerged word rules))) (logs_one FULL_ALLOWANCE files) (λ reads.
+    judged_one (Next (IsJoined files reads) (AreMerged word rules)) (next_one (IsJoined files reads) (AreMerged word rules) (joined_one files reads) (λ joined h. are_merged_one word rules joined (has_common files reads joined h))))
+
+merged_logs_one : (prefs : Option Operand) (files : List Operand) → IsOne (AreMergedLogs prefs files)
+merged_logs_one prefs files =
+    then_one (ArePreferences prefs) (λ rules. AreMergedUnder (preference_word prefs) rules files) (preferences_one prefs) (λ rules. merged_under_one (preference_word prefs) rules files)
+
+merged_common : (prefs : Option Operand) (files : List Operand) (held : Names) (merged : Merged) → AreMergedLogs prefs files held false (Ok merged) → HasCommonTree merged.logs
+merged_common prefs files held merged (inl h) = absurd (ok_not_err h.2)
+merged_common prefs files held merged (inr (rules, p, inl h)) = absurd (ok_not_err h.2)
+merged_common prefs files held merged (inr (rules, p, inr (reads, l, inl h))) = absurd (ok_not_err h.2)
+merged_common prefs files held merged (inr (rules, p, inr (reads, l, inr (joined, j, inl h)))) = absurd (ok_not_err h.2)
+merged_common prefs files held merged (inr (rules, p, inr (reads, l, inr (joined, j, inr (same, s, m))))) =
+    subst HasCommonTree (ap commands_of (sym s.0) ∙ sym (ap (λ x. x.logs) m.2)) (has_common files reads joined j)
+
+synced_one : (folders : List Operand) (maps : List Store) (merged : Merged) → HasCommonTree merged.logs → (held : Names) (one other : Result Output Refusal) → IsSynced folders maps merged held false one → IsSynced folders maps merged held false other → one ≡ other
+synced_one folders maps merged common held one other p q =
+    let a = p common.map common.common in
+    let b = q common.map common.common in
+    a.2 ∙ ap (round_answer folders) (one_answer (transitions (at common.map) merged.logs merged.merger) (one_transitions (at common.map) merged.logs merged.merger) maps a.0 b.0 a.1 b.1) ∙ sym b.2
+
+pub sync_one : (prefs : Option Operand) (folders files : List Operand) (maps : List Store) → IsOne (IsSync prefs folders files maps)
+sync_one prefs folders files maps held one other (inl p) (inl q) = p.2 ∙ ap Err (err_same (merged_logs_one prefs files held (Err p.0) (Err q.0) p.1 q.1)) ∙ sym q.2
+sync_one prefs folders files maps held one other (inl p) (inr q) = absurd (ok_not_err (merged_logs_one prefs files held (Ok q.0) (Err p.0) q.1 p.1))
+sync_one prefs folders files maps held one other (inr p) (inl q) = absurd (ok_not_err (merged_logs_one prefs files held (Ok p.0) (Err q.0) p.1 q.1))
+sync_one prefs folders files maps held one other (inr p) (inr q) =
+    synced_one folders maps q.0 (merged_common prefs files held q.0 q.1) held one other
+    (subst (λ a. IsSynced folders maps a held false one) (ok_same (merged_logs_one prefs files held (Ok p.0) (Ok q.0) p.1 q.1)) p.2) q.2
+
 -- ---- the answer of words
 
 pub text_one : (P : Check (List ℕ)) → IsOne P → IsOne (AsText P)
@@ -503,7 +636,12 @@ job_one (Steer set logs) tree = text_one (IsSteer set logs) (steer_one set logs)
 job_one (Record folder script) tree = text_one (IsRecord script (Some tree)) (record_one script tree)
 job_one (Seal folder log) tree = text_one (IsSeal folder log (Some tree)) (seal_one folder log tree)
 job_one (Apply folder set) tree = text_one (IsApply folder set (Some tree)) (apply_one folder set tree)
+job_one (Explain prefs logs) tree = explain_one prefs logs
+job_one (Undo set) tree = text_one (IsUndo set.place set.text) (undo_one set.place set.text)
+job_one (Catchup sets) tree = text_one (IsCatchup sets) (catchup_one sets)
+job_one (Rebase side prefs work sets) tree = text_one (IsRebase side prefs work sets) (rebase_one side prefs work sets)
 job_one (Drill seed logs steps) tree = text_one (IsDrill seed logs steps) (drill_one seed logs steps)
+job_one (Sync prefs folders logs) tree = λ held one other p q. absurd p
 
 answer_of_one : (job : Option Job) (tree : Store) → IsOne (IsAnswerOf job (Some tree))
 answer_of_one None tree = named_one _

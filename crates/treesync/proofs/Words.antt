@@ -4,7 +4,7 @@ use Rattle.sync_command.specs.Maps.{Store}
 use Rattle.sync_port.specs.States.{IfBoth}
 use Rattle.sync_port.specs.Ports.{FileContents, FilesState, SinkState}
 use Rattle.tool_words.specs.declared.job.Job.{Job}
-use Rattle.tool_words.specs.declared.job.Job.TheVariants.{Help, Replay, Canon, Conflicts, Merge, Transition, Steer, Record, Seal, Apply, Drill}
+use Rattle.tool_words.specs.declared.job.Job.TheVariants.{Help, Replay, Canon, Conflicts, Merge, Transition, Steer, Record, Seal, Apply, Drill, Sync, Explain, Undo, Catchup, Rebase}
 use Rattle.treesync.specs.Answering.{StandsForOutput, of_text, output_of}
 use Rattle.treesync.specs.Checks.{Answers, Causes, Check, FilesCounted, HasItems, IsAllowed, IsAllowedOf, IsOfJob, ReadsFiles, Unless, seen}
 use Rattle.treesync.specs.Apply.{IsApply}
@@ -63,6 +63,11 @@ still_refused (Merge prefs logs) files r trees = refl
 still_refused (Transition number prefs logs) files r trees = refl
 still_refused (Steer set logs) files r trees = refl
 still_refused (Drill seed logs steps) files r trees = refl
+still_refused (Sync prefs folders logs) files r trees = refl
+still_refused (Explain prefs logs) files r trees = refl
+still_refused (Undo set) files r trees = refl
+still_refused (Catchup sets) files r trees = refl
+still_refused (Rebase side prefs work sets) files r trees = refl
 
 pub memory_found : (job : Job) (state : Inputs) → FindsJob {X = Answer} StandsForOutput job state state (Err OutOfMemory)
 memory_found job state = record {
@@ -92,6 +97,11 @@ stays (Merge prefs logs) files found trees empty = refl
 stays (Transition number prefs logs) files found trees empty = refl
 stays (Steer set logs) files found trees empty = refl
 stays (Drill seed logs steps) files found trees empty = refl
+stays (Sync prefs folders logs) files found trees empty = refl
+stays (Explain prefs logs) files found trees empty = refl
+stays (Undo set) files found trees empty = refl
+stays (Catchup sets) files found trees empty = refl
+stays (Rebase side prefs work sets) files found trees empty = refl
 
 pub files_among_inputs : (before now : Inputs) (failure : Failure) → FilesCounted before.files now.files failure → InputsCounted before now failure
 files_among_inputs before now (ReadFailed word) h = h
@@ -149,6 +159,11 @@ trees_alike (Merge prefs logs) files found other trees later same h = h
 trees_alike (Transition number prefs logs) files found other trees later same h = h
 trees_alike (Steer set logs) files found other trees later same h = h
 trees_alike (Drill seed logs steps) files found other trees later same h = h
+trees_alike (Sync prefs folders logs) files found other trees later same h = h
+trees_alike (Explain prefs logs) files found other trees later same h = h
+trees_alike (Undo set) files found other trees later same h = h
+trees_alike (Catchup sets) files found other trees later same h = h
+trees_alike (Rebase side prefs work sets) files found other trees later same h = h
 
 seen_alike : (found : Outcome) → IsAlike found (seen_output found)
 seen_alike (Ok answer) = tt
@@ -180,6 +195,11 @@ trees_later (Some (Merge prefs logs)) files answer trees later h = same_fell tre
 trees_later (Some (Transition number prefs logs)) files answer trees later h = same_fell trees later h
 trees_later (Some (Steer set logs)) files answer trees later h = same_fell trees later h
 trees_later (Some (Drill seed logs steps)) files answer trees later h = same_fell trees later h
+trees_later (Some (Sync prefs folders logs)) files answer trees later h = same_fell trees later h
+trees_later (Some (Explain prefs logs)) files answer trees later h = same_fell trees later h
+trees_later (Some (Undo set)) files answer trees later h = same_fell trees later h
+trees_later (Some (Catchup sets)) files answer trees later h = same_fell trees later h
+trees_later (Some (Rebase side prefs work sets)) files answer trees later h = same_fell trees later h
 
 pub found_later : (words : Option Job) (before now : Inputs) (found : Outcome) → FindsOutput words before now found → before.files.faults ≤ now.files.faults
 found_later None before now found f = omega (arith, ap (λ s. s.files.faults) f.1)
@@ -302,9 +322,10 @@ no_trees_of words (tree ∷ trees) e job f empty =
     let count : length (folder_places words) ≡ 0 = ap (λ j. length (places_of (asked_folders j))) f ∙ ap (λ l. length (places_of l)) empty in
     absurd (omega (arith, e, count))
 
--- a job that is no recording, and neither seals nor applies, names no folder
+-- a job that is no recording and no round, and neither seals nor applies, names no folder
 pub no_folders : (job : Job) → IsAnswered job → ((folder file : Operand) → job ≡ Seal folder file → ⊥) → ((folder file : Operand) → job ≡ Apply folder file → ⊥) → job_folders job ≡ []
 no_folders (Record folder file) answered seal other = absurd answered
+no_folders (Sync prefs folders logs) answered seal other = absurd answered
 no_folders (Seal folder file) answered seal other = absurd (seal folder file refl)
 no_folders (Apply folder file) answered seal other = absurd (other folder file refl)
 no_folders Help answered seal other = refl
@@ -315,6 +336,10 @@ no_folders (Merge prefs logs) answered seal other = refl
 no_folders (Transition number prefs logs) answered seal other = refl
 no_folders (Steer set logs) answered seal other = refl
 no_folders (Drill seed logs steps) answered seal other = refl
+no_folders (Explain prefs logs) answered seal other = refl
+no_folders (Undo set) answered seal other = refl
+no_folders (Catchup sets) answered seal other = refl
+no_folders (Rebase side prefs work sets) answered seal other = refl
 
 -- the answer of an application
 pub found_apply : (folder file : Operand) (job : Job) (before now : Inputs) (found : Result (Vec ℕ Global) Refusal) (result : Outcome) → job ≡ Apply folder file → result ≡ of_text found →

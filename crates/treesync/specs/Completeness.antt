@@ -1,5 +1,6 @@
 -- When a job prints: where the files hold what it asks for, only memory or a call that fails can keep it from that.
 use Rattle.std.specs.Prelude.{◌≡◌, ◌⊎◌, ◌≤◌, List, [], ◌∷◌, length, ⊤, Option, None, Some, ℕ}
+use Rattle.std.specs.List.{AllByRecursion}
 use Rattle.sync_command.specs.Maps.{at}
 use Rattle.sync_command.specs.Trees.{Takes}
 use Rattle.sync_command.specs.declared.commands.Row.{Row}
@@ -14,10 +15,12 @@ use Rattle.refluent.specs.CommonTrees.{HasCommonTree}
 use Rattle.refluent.specs.Joints.{net_sets}
 use Rattle.pref_list.specs.Orders.{first_fault}
 use Rattle.pref_list.specs.declared.rules.Rule.{Rule}
+use Rattle.rounds.specs.Compositions.{chain_list}
+use Rattle.rounds.specs.Rebasing.{rebase_logs}
 use Rattle.tool_words.specs.Jobs.{job_of}
 use Rattle.tool_words.specs.Words.{Operand, Text}
 use Rattle.tool_words.specs.declared.job.Job.{Job}
-use Rattle.tool_words.specs.declared.job.Job.TheVariants.{Help, Replay, Canon, Conflicts, Merge, Transition, Steer, Record, Seal, Apply, Drill}
+use Rattle.tool_words.specs.declared.job.Job.TheVariants.{Help, Replay, Canon, Conflicts, Merge, Transition, Steer, Record, Seal, Apply, Drill, Sync, Explain, Undo, Catchup, Rebase}
 use Rattle.treesync.specs.Headline.{HoldLogs, HoldsRules, IsMergerOf, Recorded, all_commands}
 use Rattle.treesync.specs.Jobs.{Outside}
 use Rattle.treesync.specs.declared.input.TheConstants.{FILE_LIMIT}
@@ -58,8 +61,28 @@ pub record HoldMerger (held : Names) (file : Operand) (files : List Operand) : T
   pub common : HasCommonTree (all_commands logs)
   pub is : IsMergerOf (all_commands logs) (canonical (net set.commands))
 
--- what a job asks of the files; all texts are in their grammar and within the limits (what `record`, `seal` and
--- `apply` ask of their trees too stands in the headline)
+-- the files hold sets, each of which some tree takes, and some tree takes them one after another
+pub record HoldChain (held : Names) (files : List Operand) : Type 0 where
+  pub sets : List Recorded
+  pub hold : HoldLogs held files sets
+  pub each : AllByRecursion (λ (set : Recorded). IsTaken set.commands) sets
+  pub follow : IsTaken (chain_list (net_sets (all_commands sets)))
+
+-- the files hold work and sets that some tree takes one after another; work and sets have a common tree, and have what
+-- the rules name
+pub record HoldRebase (held : Names) (prefs : Option Operand) (work : Operand) (files : List Operand) : Type 0 where
+  pub log : Recorded
+  pub sets : List Recorded
+  pub rules : List Rule
+  pub hold : HoldLogs held (work ∷ files) (log ∷ sets)
+  pub prefer : HoldsRules held prefs rules
+  pub each : AllByRecursion (λ (set : Recorded). IsTaken set.commands) sets
+  pub follow : IsTaken (chain_list (net_sets (all_commands sets)))
+  pub common : HasCommonTree (rebase_logs log.commands (net_sets (all_commands sets)))
+  pub named : first_fault (net_sets (rebase_logs log.commands (net_sets (all_commands sets)))) rules ≡ None
+
+-- what a job asks of the files; all texts are in their grammar and within the limits (what `record`, `seal`,
+-- `apply` and `sync` ask of their trees too stands in the headlines)
 abbrev pub IsMet : Job → Names → Type 0
 IsMet Help held = ⊤
 IsMet (Replay snap log) held = HoldReplay held snap log
@@ -72,6 +95,11 @@ IsMet (Record folder script) held = ⊥
 IsMet (Seal folder log) held = ⊥
 IsMet (Apply folder set) held = ⊥
 IsMet (Drill seed logs steps) held = ⊤
+IsMet (Sync prefs folders logs) held = ⊥
+IsMet (Explain prefs files) held = HoldJoin held prefs files
+IsMet (Undo file) held = HoldsTaken held file
+IsMet (Catchup files) held = HoldChain held files
+IsMet (Rebase side prefs work files) held = HoldRebase held prefs work files
 
 -- the status of a text that was printed
 abbrev pub IsPrintedStatus : Job → ℕ → Type 0

@@ -5,7 +5,7 @@ use Rattle.sync_port.specs.States.{FaultCounted, IfKnown}
 use Rattle.sync_port.specs.Ports.{SinkContents, SinkState}
 use Rattle.sync_port.specs.declared.faults.SinkFailed.{SinkFailed}
 use Rattle.treesync.specs.Messages.{status_of, message_of, what_line}
-use Rattle.treesync.specs.Outputs.{ClashLines, Output, WholeText, status_in, text_in}
+use Rattle.treesync.specs.Outputs.{ClashLines, Output, ReasonLines, WholeText, status_in, text_in}
 use Rattle.treesync.specs.declared.refusal.Refusal.{Refusal}
 
 -- what `out` gained: the whole text, flushed; or after a failure its first bytes
@@ -27,6 +27,7 @@ abbrev pub EndsWith : Output → ℕ → SinkState → SinkState → Type 0
 EndsWith (WholeText text) status before now = IsDone 0 status before now
 EndsWith (ClashLines lines) status before now =
     IsDone (status_in (ClashLines lines)) status before now ⊎ ((status ≡ 16) × (now.faults ≡ before.faults))
+EndsWith (ReasonLines lines) status before now = IsDone 0 status before now ⊎ ((status ≡ 16) × (now.faults ≡ before.faults))
 
 -- An output is printed. After a refusal `out` is as before.
 abbrev pub Prints : Result Output Refusal → ℕ → SinkState → SinkState → Type 0

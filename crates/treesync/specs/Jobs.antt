@@ -7,22 +7,26 @@ use Rattle.sync_command.specs.Maps.{Store}
 use Rattle.tree_port.specs.States.{Counts, IsCounted, NoneFell, TreeState}
 use Rattle.tool_words.specs.Words.{Operand}
 use Rattle.tool_words.specs.declared.job.Job.{Job}
-use Rattle.tool_words.specs.declared.job.Job.TheVariants.{Help, Replay, Canon, Conflicts, Merge, Transition, Steer, Record, Seal, Apply, Drill}
+use Rattle.tool_words.specs.declared.job.Job.TheVariants.{Help, Replay, Canon, Conflicts, Merge, Transition, Steer, Record, Seal, Apply, Drill, Sync, Explain, Undo, Catchup, Rebase}
 use Rattle.tool_words.specs.Jobs.{job_of}
 use Rattle.tool_words.specs.Help.{help_text}
 use Rattle.tool_words.specs.Trees.{folder_places}
 use Rattle.treesync.specs.Checks.{Causes, Check, IsAllowed, IsAllowedOf, IsOfJob, Judged, ReadsFiles, Unless}
 use Rattle.treesync.specs.Apply.{Applies, IsApply, IsSetOf}
 use Rattle.treesync.specs.Canon.{IsCanon}
+use Rattle.treesync.specs.Catchup.{IsCatchup}
 use Rattle.treesync.specs.Conflicts.{IsConflicts}
 use Rattle.treesync.specs.Drill.{IsDrill}
+use Rattle.treesync.specs.Explain.{IsExplain}
 use Rattle.treesync.specs.Joining.{log_limits}
 use Rattle.treesync.specs.Merge.{IsMerge}
 use Rattle.treesync.specs.Preferences.{preference_limits}
 use Rattle.treesync.specs.Steer.{IsSteer}
 use Rattle.treesync.specs.Transition.{IsTransition}
+use Rattle.treesync.specs.Undo.{IsUndo}
 use Rattle.treesync.specs.Ends.{Prints, Says, line_of}
 use Rattle.treesync.specs.Outputs.{AsText, Output}
+use Rattle.treesync.specs.Rebase.{IsRebase, work_limits}
 use Rattle.treesync.specs.Replay.{IsReplay}
 use Rattle.treesync.specs.Record.{IsRecord}
 use Rattle.treesync.specs.Seal.{IsSeal, LooksAtOnly}
@@ -33,7 +37,8 @@ use Rattle.treesync.specs.declared.refusal.Failure.TheVariants.{ReadFailed, Tree
 
 -- ---- one line for each command
 
--- `tree` is what the job's tree holds, where it has one and that is known
+-- `tree` is what the job's tree holds, where it has one and that is known. The answer of a round depends on a list of trees
+-- and is no check of one: its run is explained apart (`RanRound`).
 abbrev pub IsJobAnswer : Job → Option Store → Check Output
 IsJobAnswer Help tree = AsText (Judged (λ answer. answer ≡ Ok help_text))
 IsJobAnswer (Replay snap log) tree = AsText (IsReplay snap.place snap.text log.place log.text)
@@ -46,6 +51,11 @@ IsJobAnswer (Record folder script) tree = AsText (IsRecord script tree)
 IsJobAnswer (Seal folder log) tree = AsText (IsSeal folder log tree)
 IsJobAnswer (Apply folder set) tree = AsText (IsApply folder set tree)
 IsJobAnswer (Drill seed logs steps) tree = AsText (IsDrill seed logs steps)
+IsJobAnswer (Sync prefs folders logs) tree = Judged (λ answer. ⊥)
+IsJobAnswer (Explain prefs logs) tree = IsExplain prefs logs
+IsJobAnswer (Undo set) tree = AsText (IsUndo set.place set.text)
+IsJobAnswer (Catchup sets) tree = AsText (IsCatchup sets)
+IsJobAnswer (Rebase side prefs work sets) tree = AsText (IsRebase side prefs work sets)
 
 -- the limits of the files that it reads, each once
 abbrev pub limits_of : Job → List ℕ
@@ -60,6 +70,11 @@ limits_of (Record folder script) = FILE_LIMIT ∷ []
 limits_of (Seal folder log) = FILE_LIMIT ∷ []
 limits_of (Apply folder set) = FILE_LIMIT ∷ []
 limits_of (Drill seed logs steps) = []
+limits_of (Sync prefs folders logs) = preference_limits prefs ++ log_limits logs
+limits_of (Explain prefs logs) = preference_limits prefs ++ log_limits logs
+limits_of (Undo set) = FILE_LIMIT ∷ []
+limits_of (Catchup sets) = log_limits sets
+limits_of (Rebase side prefs work sets) = preference_limits prefs ++ work_limits sets
 
 -- ---- words
 

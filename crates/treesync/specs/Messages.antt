@@ -7,7 +7,7 @@ use Rattle.treesync.specs.declared.refusal.Refusal.TheVariants.{InvalidArguments
 use Rattle.treesync.specs.declared.refusal.Failure.{Failure}
 use Rattle.treesync.specs.declared.refusal.Failure.TheVariants.{ReadFailed, TreeFailed, TreeDenied}
 use Rattle.treesync.specs.declared.refusal.Finding.{Finding}
-use Rattle.treesync.specs.declared.refusal.Finding.TheVariants.{TooLarge, Text, NoTree, NoCommonTree, NoSuchLog, NoCommand, Diverged, Blocked, NotDrawn, DoesNotFit, CanAdd, OpRefused, NotTaken}
+use Rattle.treesync.specs.declared.refusal.Finding.TheVariants.{TooLarge, Text, NoTree, NoCommonTree, NoSuchLog, NoCommand, Diverged, Blocked, NotDrawn, DoesNotFit, CanAdd, OpRefused, NoFollow, NotTaken}
 use Rattle.tool_words.specs.Operands.{text_at}
 use Rattle.log_text.specs.declared.faults.TextKind.{TextKind}
 use Rattle.log_text.specs.declared.faults.TextKind.TheVariants as kind
@@ -28,6 +28,7 @@ finding_status (DoesNotFit word path) = 14
 finding_status (CanAdd word log path) = 14
 finding_status (OpRefused word number why) = 15
 finding_status (NotTaken word number) = 17
+finding_status (NoFollow word path) = 18
 
 abbrev pub failure_status : Failure → ℕ
 failure_status (ReadFailed word) = 3
@@ -110,6 +111,7 @@ finding_message words (Diverged word path) = path_line (text_at words word) (cod
 finding_message words (Blocked word path) = path_line (text_at words word) (codes "blocked at ") path
 finding_message words (NotDrawn word path) = path_line (text_at words word) (codes "not drawn at ") path
 finding_message words (DoesNotFit word path) = path_line (text_at words word) (codes "does not fit at ") path
+finding_message words (NoFollow word path) = path_line (text_at words word) (codes "does not follow at ") path
 finding_message words (CanAdd word log path) = can_add_line (text_at words word) log path
 finding_message words (OpRefused word number why) = numbered_line (text_at words word) (decimal (number + 1)) (why_name why)
 finding_message words (NotTaken word number) = numbered_line (text_at words word) (decimal (number + 1)) (codes "not taken")

@@ -1,19 +1,22 @@
--- What a run does: it finds its answer and prints it, or it is a recording, which writes as it goes.
+-- What a run does: it finds its answer and prints it; or it is a round, which does so over a list of trees; or a
+-- recording, which writes as it goes.
 use Rattle.std.specs.Prelude.{◌≡◌, ◌⊎◌, ◌≤◌, ℕ, List, [], ◌∷◌, Option, None, Some, Result, Ok, Err, ⊤}
 use Rattle.sync_port.specs.States.{IfKnown}
 use Rattle.record_core.specs.declared.faults.RecordFault.{RecordFault}
 use Rattle.tool_words.specs.Jobs.{job_of}
 use Rattle.tool_words.specs.Words.{Operand, Text}
 use Rattle.tool_words.specs.declared.job.Job.{Job}
-use Rattle.tool_words.specs.declared.job.Job.TheVariants.{Record}
+use Rattle.tool_words.specs.declared.job.Job.TheVariants.{Record, Sync}
 use Rattle.tool_words.specs.declared.job.WordFault.{WordFault}
 use Rattle.tool_words.specs.declared.job.WordFault.TheVariants as word
 use Rattle.treesync.specs.Apply.{OfOnlyTree}
 use Rattle.treesync.specs.Checks.{FilesCounted, IsAllowed, IsOfJob, ReadsFiles, Unless}
-use Rattle.treesync.specs.Ends.{Says, end_line}
+use Rattle.treesync.specs.Ends.{Prints, Says, end_line, line_of}
 use Rattle.treesync.specs.Jobs.{NoneFailed, Outside, Ran}
 use Rattle.treesync.specs.Messages.{message_of, status_of}
+use Rattle.treesync.specs.Outputs.{Output}
 use Rattle.treesync.specs.Record.{IsScript, RecordsOnTree, Script, record_refusal}
+use Rattle.treesync.specs.Sync.{FindsRound}
 use Rattle.treesync.specs.declared.input.TheConstants.{FILE_LIMIT}
 use Rattle.treesync.specs.declared.refusal.Refusal.{Refusal}
 use Rattle.treesync.specs.declared.refusal.Refusal.TheVariants.{InvalidArguments, OutOfMemory}
@@ -55,13 +58,22 @@ pub record RanRecording (folder file : Operand) (words : List Text) (before now 
   pub allowed : IsAllowed (IsScript file) before.files.contents (FilesCounted before.files now.files) script
   pub carries_out : CarriesOut folder file words before now status script
 
--- a job that finds its answer before it prints
+-- A round: its answer was found over files and trees, and printed.
+pub record RanRound (prefs : Option Operand) (folders files : List Operand) (words : List Text) (before now : Outside) (status : ℕ) : Type 0 where
+  pub answer : Result Output Refusal
+  pub finds : FindsRound prefs folders files before.files now.files before.trees now.trees answer
+  pub prints : Prints answer status before.out now.out
+  pub says : Says (line_of words answer status) before.err now.err
+
+-- a job whose answer is found before it prints, over one tree at most
 abbrev pub IsAnswered : Job → Type 0
 IsAnswered (Record folder file) = ⊥
+IsAnswered (Sync prefs folders files) = ⊥
 IsAnswered job = ⊤
 
 abbrev pub RunsJob : Option Job → List Text → Outside → Outside → ℕ → Type 0
 RunsJob (Some (Record folder file)) words before now status = RanRecording folder file words before now status
+RunsJob (Some (Sync prefs folders files)) words before now status = RanRound prefs folders files words before now status
 RunsJob job words before now status = Ran words before now status
 
 -- what the words do

@@ -1,9 +1,10 @@
 //! What a job answers, before it is printed.
 
 ghost use Rattle.std.specs.Prelude.{◌≡◌};
-ghost use Rattle.treesync.specs.Answering.{of_joint, of_text};
+ghost use Rattle.treesync.specs.Answering.{of_explained, of_joint, of_text};
 
 use crate::Refusal;
+use crate::explain::Explained;
 use refluent::Joint;
 
 /// What a job answers.
@@ -13,6 +14,8 @@ pub enum Answer {
     Text(Vec<u8>),
     /// The joint of logs. A line for each of its clashes is written as they come.
     Clashes(Joint),
+    /// The joint of logs and a merger. A line for each command that the merger leaves out is written as they come.
+    Reasons(Explained),
 }
 
 /// The answer of a job that makes its text whole.
@@ -31,6 +34,16 @@ pub fn of_joint(joint: Result<Joint, Refusal>) -> Result<Answer, Refusal>
 {
     match joint {
         Ok(joint) => Ok(Answer::Clashes(joint)),
+        Err(refusal) => Err(refusal),
+    }
+}
+
+/// The answer of a job that lists reasons.
+pub fn of_explained(explained: Result<Explained, Refusal>) -> Result<Answer, Refusal>
+    ensures { result ≡ of_explained explained }
+{
+    match explained {
+        Ok(explained) => Ok(Answer::Reasons(explained)),
         Err(refusal) => Err(refusal),
     }
 }

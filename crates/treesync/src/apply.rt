@@ -23,7 +23,7 @@ use tool_words::{Word, texts};
 use tree_port::{Tree, TreeFault};
 
 /// What a refused application means, to the tree that the word at the place `word` names.
-fn apply_refusal(word: usize, fault: ApplyFault) -> Refusal
+pub fn apply_refusal(word: usize, fault: ApplyFault) -> Refusal
     ensures { result ≡ apply_refusal word fault }
 {
     match fault {

@@ -8,6 +8,7 @@ ghost use Rattle.treesync.specs.Joining.{log_limits};
 
 use crate::Refusal;
 use crate::joining::{join_logs, read_logs};
+use crate::logs::FULL_ALLOWANCE;
 use refluent::Joint;
 use std::alloc::Global;
 use sync_port::Files;
@@ -23,7 +24,7 @@ pub fn conflicts<F: Files>(
     ensures { Answers ShowsClashes (IsConflicts names.now) (log_limits names.now)
         (F.files files.old) (F.files files.new) result }
 {
-    let logs = read_logs(alloc, names, files)?;
+    let logs = read_logs(alloc, FULL_ALLOWANCE, names, files)?;
     let joined = join_logs(alloc, names, logs)?;
     Ok(joined.joint)
 }

@@ -6,7 +6,8 @@ ghost use Rattle.treesync.specs.Checks.{Answers, IsJudged};
 ghost use Rattle.treesync.specs.Joining.{AllTaken, AreJoined, AreLogFiles, AreSumsOf, EachStands, EachTaken, IsJoined, IsJointOf, IsLogs, joint_version, log_limits};
 ghost use Rattle.treesync.specs.Logs.{IsLogFile, IsTotal, ReadLog};
 
-use crate::logs::{Allowance, FULL_ALLOWANCE, LogFile, Total, later_version, read_sum};
+use crate::input::FILE_LIMIT;
+use crate::logs::{Allowance, LogFile, Total, later_version, read_sum};
 use crate::{Finding, Refusal};
 use canon_set::LogSum;
 use refluent::{JoinFault, Joint, join};
@@ -24,7 +25,7 @@ pub struct JoinedLogs {
 }
 
 /// What is left after a log.
-fn left_after<T>(left: Allowance, log: &LogFile<T>) -> Allowance
+pub fn left_after<T>(left: Allowance, log: &LogFile<T>) -> Allowance
     ensures { result ≡ record {
       bytes = left.bytes - log.now.size;
       commands = left.commands - log.now.count;
@@ -44,19 +45,21 @@ fn push_log(logs: &mut Vec<LogFile<Total>>, log: LogFile<Total>) -> Result<(), N
     Ok(())
 }
 
-/// Reads the logs in the files of these names one after another, each into the sum of its commands, within the limits
-/// of all of them together.
+/// Reads the logs in the files of these names one after another, each into the sum of its commands. All of them together
+/// are within the allowance.
 pub fn read_logs<F: Files>(
     alloc: Global,
+    allowance: Allowance,
     names: &FileList<'_>,
     files: &mut F,
 ) -> Result<Vec<LogFile<Total>>, Refusal>
-    ensures answer { Answers AreLogFiles (IsLogs FULL_ALLOWANCE names.now) (log_limits names.now)
+    requires { allowance.bytes ≤ FILE_LIMIT }
+    ensures answer { Answers AreLogFiles (IsLogs allowance names.now) (log_limits names.now)
         (F.files files.old) (F.files files.new) result }
     ensures many { IfOk result (λ logs. length logs.items ≡ length names.now) }
 {
     let mut logs = Vec::new(alloc);
-    let mut left = FULL_ALLOWANCE;
+    let mut left = allowance;
     'names: for at in 0..names.len() {
         let log = read_sum(alloc, names.place(at), names.name(at), left, files)?;
         left = left_after(left, &log);
@@ -66,7 +69,7 @@ pub fn read_logs<F: Files>(
 }
 
 /// The version of what is printed of logs: 2 wherever one of them is.
-fn joint_version(logs: &[LogFile<Total>]) -> Version
+pub fn joint_version(logs: &[LogFile<Total>]) -> Version
     ensures { (reads : List ReadLog) → EachStands (IsLogFile IsTotal) logs.now reads →
         result ≡ joint_version reads }
 {
@@ -78,7 +81,7 @@ fn joint_version(logs: &[LogFile<Total>]) -> Version
 }
 
 /// The sums of logs, or the first log that no tree takes.
-fn sums_of(
+pub fn sums_of(
     alloc: Global,
     names: &FileList<'_>,
     logs: Vec<LogFile<Total>>,
@@ -104,7 +107,7 @@ fn sums_of(
 }
 
 /// Appends a sum.
-fn push_sum(sums: &mut Vec<LogSum>, sum: LogSum) -> Result<(), NoMemory>
+pub fn push_sum(sums: &mut Vec<LogSum>, sum: LogSum) -> Result<(), NoMemory>
     ensures { OnOk result (sums.new.items ≡ sums.old.items ++ sum ∷ []) }
 {
     sums.push(sum)?;
@@ -112,7 +115,7 @@ fn push_sum(sums: &mut Vec<LogSum>, sum: LogSum) -> Result<(), NoMemory>
 }
 
 /// The joint of logs by their sums, or their first disagreement.
-fn joint_of(alloc: Global, sums: Vec<LogSum>) -> Result<Joint, Refusal>
+pub fn joint_of(alloc: Global, sums: Vec<LogSum>) -> Result<Joint, Refusal>
     requires { length sums.items ≤ MAX_LOGS }
     ensures { (reads : List ReadLog) → AreSumsOf sums reads →
         IsJudged IsJointOf (AllTaken reads) result }

@@ -4,13 +4,17 @@
 mod answer;
 mod apply;
 mod canon;
+mod catchup;
 mod conflicts;
 mod drill;
+mod explain;
 mod input;
 mod joining;
 mod logs;
 mod merge;
 mod preferences;
+mod reason_lines;
+mod rebase;
 mod record;
 mod refusal;
 mod replay;
@@ -18,9 +22,11 @@ mod report;
 mod run;
 mod seal;
 mod steer;
+mod sync;
 #[cfg(test)]
 mod tests;
 mod transitions;
+mod undo;
 mod writing;
 
 pub use self::answer::Answer;

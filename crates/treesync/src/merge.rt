@@ -12,6 +12,7 @@ ghost use Rattle.treesync.specs.Preferences.{preference_limits};
 
 use crate::Refusal;
 use crate::joining::{JoinedLogs, join_logs, read_logs};
+use crate::logs::FULL_ALLOWANCE;
 use crate::preferences::{preference_word, preferences, ranking_under};
 use log_text::print_log;
 use pref_list::{Ranking, Rule};
@@ -56,7 +57,7 @@ fn merge_under<F: Files>(
     ensures { Answers HasItems (IsMergeOf word rules.now names.now) (log_limits names.now)
         (F.files files.old) (F.files files.new) result }
 {
-    let logs = read_logs(alloc, names, files)?;
+    let logs = read_logs(alloc, FULL_ALLOWANCE, names, files)?;
     let joined = join_logs(alloc, names, logs)?;
     merged(alloc, word, rules, &joined)
 }

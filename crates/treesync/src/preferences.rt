@@ -82,7 +82,7 @@ pub fn preference_word(prefs: &Option<Word<'_>>) -> usize
 }
 
 /// What a fault of the rules means that the word at the place `word` names.
-fn rule_refusal(word: usize, fault: RankFault) -> Refusal
+pub fn rule_refusal(word: usize, fault: RankFault) -> Refusal
     ensures { result ≡ rule_refusal word fault }
 {
     match fault {

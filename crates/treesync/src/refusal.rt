@@ -99,6 +99,12 @@ pub enum Finding {
         number: usize,
         why: Why,
     },
+    /// No tree takes the sets one after another: the first that does not follow those before it, and the path of the
+    /// command at which it does not.
+    NoFollow {
+        word: usize,
+        path: Path,
+    },
     /// The tree does not take this command of the log.
     NotTaken {
         word: usize,

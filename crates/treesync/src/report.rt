@@ -7,13 +7,16 @@ ghost use Rattle.sync_port.specs.Sending.{Sends};
 ghost use Rattle.treesync.specs.Answering.{output_of};
 ghost use Rattle.treesync.specs.Conflicts.{clash_lines};
 ghost use Rattle.treesync.specs.Ends.{Prints, PrintsAll, Says, end_line, line_of};
+ghost use Rattle.treesync.specs.Explain.{reason_lines};
 ghost use Rattle.treesync.specs.Messages.{status_of, failure_status, finding_status, message_of, failure_message, finding_message, what_line, file_line, numbered_line, line_at, path_line, disagreement_line, can_add_line, kind_name, why_name};
-ghost use Rattle.treesync.specs.Outputs.{ClashLines, WholeText, status_in, text_in};
+ghost use Rattle.treesync.specs.Outputs.{ClashLines, ReasonLines, WholeText, status_in, text_in};
 ghost use Rattle.treesync.specs.Writing.{WriteFaults, WritesLines};
 ghost use Rattle.tool_words.specs.Operands.{text_at};
 ghost use Rattle.treesync.specs.Checks.{seen};
 ghost use Rattle.std.specs.List.{concat};
 
+use crate::explain::Explained;
+use crate::reason_lines::write_reasons;
 use crate::writing::{WriteFault, write_clashes};
 use crate::{Answer, Failure, Finding, Refusal};
 use itoa::Buffer;
@@ -43,6 +46,7 @@ fn finding_status(finding: &Finding) -> u8
         Finding::CanAdd { .. } => 14,
         Finding::OpRefused { .. } => 15,
         Finding::NotTaken { .. } => 17,
+        Finding::NoFollow { .. } => 18,
     }
 }
 
@@ -318,6 +322,9 @@ fn say_finding<E: Sink>(err: &mut E, words: &[String], finding: &Finding) -> Res
             say_of_path(err, words, *word, texts::DOES_NOT_FIT, path)
         }
         Finding::CanAdd { word, log, path } => say_can_add(err, words, *word, *log, path),
+        Finding::NoFollow { word, path } => {
+            say_of_path(err, words, *word, texts::DOES_NOT_FOLLOW, path)
+        }
         Finding::OpRefused { word, number, why } => {
             say_of_line(err, words, *word, *number as u128 + 1, why_text(*why))
         }
@@ -409,6 +416,37 @@ fn print_clashes<O: Sink>(alloc: Global, out: &mut O, joint: &Joint) -> u8
     }
 }
 
+/// Prints the reasons of a merger, line by line, and flushes them.
+fn print_reason_lines<O: Sink>(
+    alloc: Global,
+    out: &mut O,
+    explained: &Explained,
+) -> Result<u64, WriteFault>
+    ensures faults { WriteFaults result (O.sink out.old) (O.sink out.new) }
+    ensures contents { IfKnown (O.sink out.old) (O.sink out.new)
+        (WritesLines (text_in (ReasonLines (reason_lines explained.now.0 explained.now.1)))
+        result) }
+{
+    let number = write_reasons(alloc, explained, out)?;
+    match out.flush() {
+        Ok(()) => Ok(number),
+        Err(_) => Err(WriteFault::Failed),
+    }
+}
+
+/// Prints the reasons of a merger and gives the status of that.
+fn print_reasons<O: Sink>(alloc: Global, out: &mut O, explained: &Explained) -> u8
+    ensures later { (O.sink out.old).faults ≤ (O.sink out.new).faults }
+    ensures prints { Prints (Ok (ReasonLines (reason_lines explained.now.0 explained.now.1)))
+        result (O.sink out.old) (O.sink out.new) }
+{
+    match print_reason_lines(alloc, out, explained) {
+        Ok(_) => 0,
+        Err(WriteFault::Failed) => 4,
+        Err(WriteFault::Memory) => 16,
+    }
+}
+
 /// Prints an answer and gives the status of that.
 fn print_answer<O: Sink>(alloc: Global, out: &mut O, answer: &Answer) -> u8
     ensures later { (O.sink out.old).faults ≤ (O.sink out.new).faults }
@@ -417,6 +455,7 @@ fn print_answer<O: Sink>(alloc: Global, out: &mut O, answer: &Answer) -> u8
     match answer {
         Answer::Text(text) => print_text(out, text),
         Answer::Clashes(joint) => print_clashes(alloc, out, joint),
+        Answer::Reasons(explained) => print_reasons(alloc, out, explained),
     }
 }
 

@@ -11,20 +11,27 @@ ghost use Rattle.treesync.specs.Checks.{Answers, HasItems, IsJudged, IsOne};
 ghost use Rattle.treesync.specs.Completeness.{CompletesJob};
 ghost use Rattle.treesync.specs.Headline.{KeepsUnready, PrintsApplied, PrintsMerger, PrintsRecorded, PrintsRules, PrintsSealed, PrintsSteered, PrintsTransition, ResumesApply, TellsClashes};
 ghost use Rattle.treesync.specs.Jobs.{FindsJob, HasItsTrees, IsAnswer, IsJobAnswer, Keeps, NoneFailed, inputs, limits_of, outside};
+ghost use Rattle.treesync.specs.RoundHeadline.{AnswersRound, JoinsReplicas, KeepsUnreadyRound, ResumesRound};
+ghost use Rattle.treesync.specs.SetHeadline.{PrintsCatchup, PrintsReasons, PrintsRebase, PrintsUndo};
 ghost use Rattle.treesync.specs.Runs.{EndsRight, IsAnswered, Runs, words_refusal};
 
-use crate::answer::{of_joint, of_text};
+use crate::answer::{of_explained, of_joint, of_text};
 use crate::apply::apply;
 use crate::canon::canon;
+use crate::catchup::catchup;
 use crate::conflicts::conflicts;
 use crate::drill::drill;
+use crate::explain::explain;
 use crate::merge::merge;
+use crate::rebase::rebase;
 use crate::record::record;
 use crate::replay::replay;
 use crate::report::report;
 use crate::seal::seal;
 use crate::steer::steer;
+use crate::sync::sync;
 use crate::transitions::transition;
+use crate::undo::undo;
 use crate::{Answer, Refusal};
 use std::alloc::Global;
 use sync_port::{Files, Sink};
@@ -71,11 +78,22 @@ fn job_answer<F: Files>(alloc: Global, job: &Job, files: &mut F) -> Result<Answe
             of_text(steer(alloc, set.place(), set.as_str(), logs, files))
         }
         Job::Drill { seed, logs, steps } => of_text(drill(alloc, *seed, *logs, *steps)),
-        Job::Record { .. } | Job::Seal { .. } | Job::Apply { .. } => unreachable!(),
+        Job::Explain { prefs, logs } => of_explained(explain(alloc, prefs, logs, files)),
+        Job::Undo { set } => of_text(undo(alloc, set.place(), set.as_str(), files)),
+        Job::Catchup { sets } => of_text(catchup(alloc, sets, files)),
+        Job::Rebase {
+            side,
+            prefs,
+            work,
+            sets,
+        } => of_text(rebase(alloc, *side, prefs, work, sets, files)),
+        Job::Record { .. } | Job::Seal { .. } | Job::Apply { .. } | Job::Sync { .. } => {
+            unreachable!()
+        }
     }
 }
 
-/// The answer of a job that is no recording.
+/// The answer of a job that is no recording and no round.
 fn find_answer<F: Files>(
     alloc: Global,
     job: &Job,
@@ -106,7 +124,7 @@ fn words_refusal(fault: WordFault) -> Refusal
     }
 }
 
-/// Finds the answer of the words and prints it, or makes the recording that they ask for.
+/// Finds the answer of the words and prints it, or makes the round or the recording that they ask for.
 fn run_words<F: Files, O: Sink, E: Sink>(
     alloc: Global,
     words: &[String],
@@ -139,6 +157,14 @@ fn run_words<F: Files, O: Sink, E: Sink>(
             Job::Record { folder, script } => {
                 record(alloc, words, folder, script, files, trees, out, err)
             }
+            Job::Sync {
+                prefs,
+                folders,
+                logs,
+            } => {
+                let answer = sync(alloc, prefs, folders, logs, files, trees);
+                report(alloc, words, answer, out, err)
+            }
             _ => {
                 let answer = find_answer(alloc, &job, files, trees);
                 report(alloc, words, answer, out, err)
@@ -153,19 +179,27 @@ fn run_words<F: Files, O: Sink, E: Sink>(
 ///
 /// `words` are those after the program's name, and name files of `files`. On status 0 or 1 the job's whole text was
 /// written to `out`, which was flushed. After every other status but 4 `out` is as before, and after 4 it gained the
-/// first bytes of the text; so it did after 16 where memory ran out between the lines of a `conflicts`. A `record` writes
-/// as it goes, and what it leaves is said below. On a refusal `err` gained its one line, or the first bytes of it where
-/// writing to `err` failed, which changes no status. What the files hold is as before, each file of the job was opened
-/// once at most, and no count of faults falls. Status 16 may come at any time. The words, the bytes under the names of
-/// `files` and what a tree holds determine the right answer: there are never two.
+/// first bytes of the text; so it did after 16 where memory ran out between the lines of a `conflicts` or an `explain`.
+/// A `record` writes as it goes, and what it leaves is said below. On a refusal `err` gained its one line, or the first
+/// bytes of it where writing to `err` failed, which changes no status. What the files hold is as before, each file of
+/// the job was opened once at most, and no count of faults falls. Status 16 may come at any time. The words, the bytes
+/// under the names of `files` and what the trees hold determine the right answer: there are never two.
 ///
 /// Where some tree takes all logs of a `merge`, and they have what the rules name, it prints, unless memory runs out or
 /// a fault was counted, a set of the logs' net commands that fits every tree that takes them all and to which no
 /// further one can be added; and each such set is printed for some rules, those that `steer` prints for it. With status
 /// 0 a `conflicts` has found that no two net commands of its logs clash, and with 1 that some do.
 ///
+/// With status 0 an `explain` has printed a line for each net command that the merger of the same rules leaves out, with
+/// its first chain. With status 0 an `undo` has printed what leads back from SET's result on every tree that takes SET,
+/// and from an application of its net set that was stopped anywhere; a `catchup` one set that fits every tree that takes
+/// the net sets one after another and leads where they lead; and a `rebase` what leads, on every tree that takes both the
+/// work and the sets, from its side to the first merger. Without rules nothing of the work is undone by `tree`, and under
+/// `all 2` nothing of the sets by `next`.
+///
 /// `trees` are those of the folders that the words name, in their order (`HasItsTrees`, which every clause asks for);
-/// only `record`, `seal` and `apply` have one, `seal` only looks at it, and every other job leaves them as they are.
+/// only `record`, `seal` and `apply` have one, and `sync` has one for each of its logs; `seal` only looks at it, and every
+/// other job leaves them as they are.
 ///
 /// A `record` reads its script as any file, with nothing written or changed where that is refused. Then each command's
 /// line is on `out`, flushed, before its change is made. With the statuses 0, 12 and 15 the log has its end line, and the
@@ -178,6 +212,13 @@ fn run_words<F: Files, O: Sink, E: Sink>(
 /// target, with nothing changed outside the set's nodes: so a run that was stopped between any two calls of the tree, and
 /// is run again, ends there. After the statuses 2, 3, 5, 6, 8, 9 and 12 of these two the tree is as before. Status 10 or
 /// 11 comes only where the tree counted a fault or a denial.
+///
+/// A `sync` reads and merges its logs as `merge` does, and looks at all its trees before it changes the first one; where
+/// one of them is not ready for the transition of its log, none is changed, and the first of these is named by its
+/// folder. On trees that are known, the statuses 0 and 4 mean that each tree is its target, and 0 that their work was
+/// printed; after each other status each tree is as before or ready for the same target, with nothing changed outside its
+/// transition's nodes: so a run that was stopped between any two calls of the trees, and is run again, ends there. Where
+/// the trees began as the results of the logs on one tree, they all end as the merger's result on it.
 pub fn run<F: Files, O: Sink, E: Sink>(
     alloc: Global,
     words: &[String],
@@ -266,6 +307,54 @@ pub fn run<F: Files, O: Sink, E: Sink>(
         (E.sink err.new)) result }
     ensures records { HasItsTrees (map string_bytes words.now) trees.old.items →
         PrintsRecorded (map string_bytes words.now)
+        (outside (F.files files.old) (map (λ tree. live tree) trees.old.items) (O.sink out.old)
+        (E.sink err.old))
+        (outside (F.files files.new) (map (λ tree. live tree) trees.new.items) (O.sink out.new)
+        (E.sink err.new)) result }
+    ensures rounds { HasItsTrees (map string_bytes words.now) trees.old.items →
+        AnswersRound (map string_bytes words.now)
+        (outside (F.files files.old) (map (λ tree. live tree) trees.old.items) (O.sink out.old)
+        (E.sink err.old))
+        (outside (F.files files.new) (map (λ tree. live tree) trees.new.items) (O.sink out.new)
+        (E.sink err.new)) result }
+    ensures syncs { HasItsTrees (map string_bytes words.now) trees.old.items →
+        ResumesRound (map string_bytes words.now)
+        (outside (F.files files.old) (map (λ tree. live tree) trees.old.items) (O.sink out.old)
+        (E.sink err.old))
+        (outside (F.files files.new) (map (λ tree. live tree) trees.new.items) (O.sink out.new)
+        (E.sink err.new)) result }
+    ensures joins { HasItsTrees (map string_bytes words.now) trees.old.items →
+        JoinsReplicas (map string_bytes words.now)
+        (outside (F.files files.old) (map (λ tree. live tree) trees.old.items) (O.sink out.old)
+        (E.sink err.old))
+        (outside (F.files files.new) (map (λ tree. live tree) trees.new.items) (O.sink out.new)
+        (E.sink err.new)) result }
+    ensures unready_round { HasItsTrees (map string_bytes words.now) trees.old.items →
+        KeepsUnreadyRound (map string_bytes words.now)
+        (outside (F.files files.old) (map (λ tree. live tree) trees.old.items) (O.sink out.old)
+        (E.sink err.old))
+        (outside (F.files files.new) (map (λ tree. live tree) trees.new.items) (O.sink out.new)
+        (E.sink err.new)) }
+    ensures undoes { HasItsTrees (map string_bytes words.now) trees.old.items →
+        PrintsUndo (map string_bytes words.now)
+        (outside (F.files files.old) (map (λ tree. live tree) trees.old.items) (O.sink out.old)
+        (E.sink err.old))
+        (outside (F.files files.new) (map (λ tree. live tree) trees.new.items) (O.sink out.new)
+        (E.sink err.new)) result }
+    ensures catches_up { HasItsTrees (map string_bytes words.now) trees.old.items →
+        PrintsCatchup (map string_bytes words.now)
+        (outside (F.files files.old) (map (λ tree. live tree) trees.old.items) (O.sink out.old)
+        (E.sink err.old))
+        (outside (F.files files.new) (map (λ tree. live tree) trees.new.items) (O.sink out.new)
+        (E.sink err.new)) result }
+    ensures rebases { HasItsTrees (map string_bytes words.now) trees.old.items →
+        PrintsRebase (map string_bytes words.now)
+        (outside (F.files files.old) (map (λ tree. live tree) trees.old.items) (O.sink out.old)
+        (E.sink err.old))
+        (outside (F.files files.new) (map (λ tree. live tree) trees.new.items) (O.sink out.new)
+        (E.sink err.new)) result }
+    ensures explains { HasItsTrees (map string_bytes words.now) trees.old.items →
+        PrintsReasons (map string_bytes words.now)
         (outside (F.files files.old) (map (λ tree. live tree) trees.old.items) (O.sink out.old)
         (E.sink err.old))
         (outside (F.files files.new) (map (λ tree. live tree) trees.new.items) (O.sink out.new)

@@ -101,6 +101,6 @@ pub fn steer<F: Files>(
         (FILE_LIMIT ∷ log_limits names.now) (F.files files.old) (F.files files.new) result }
 {
     let read = read_sum(alloc, word, set, FULL_ALLOWANCE, files)?;
-    let logs = read_logs(alloc, names, files)?;
+    let logs = read_logs(alloc, FULL_ALLOWANCE, names, files)?;
     steered(alloc, word, read, names, logs)
 }

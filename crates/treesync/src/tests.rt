@@ -6,12 +6,15 @@ mod drills;
 mod machines;
 mod records;
 mod seals;
+mod sets;
+mod synced;
 
 use self::clashing::CLASHES;
 use self::machines::{
     CLASHING, DESKTOP, DESKTOP_LEFT, LAPTOP, LAPTOP_LEFT, MERGED, PREFERRED, SERVER, SERVER_LEFT,
     STEERED,
 };
+use self::sets::{SETS, STEERED_SETS};
 use crate::run;
 use std::alloc::Global;
 use std::process::Abort;
@@ -99,7 +102,7 @@ const FILE_A: &str = "treesnap 1\na f:1\nend 1\n";
 fn jobs_have_their_answers(rt: HostRuntime) -> Result<(), Fail> {
     let alloc = rt.alloc();
     let help =
-        "usage: treesync COMMAND WORDS\n  replay SNAP LOG\n  canon LOG\n  conflicts LOG...\n  merge [--prefs FILE] LOG...\n  transition [--prefs FILE] N LOG...\n  steer SET LOG...\n  record FOLDER SCRIPT\n  seal FOLDER LOG\n  apply FOLDER SET\n  drill SEED LOGS STEPS\n";
+        "usage: treesync COMMAND WORDS\n  replay SNAP LOG\n  canon LOG\n  conflicts LOG...\n  merge [--prefs FILE] LOG...\n  transition [--prefs FILE] N LOG...\n  steer SET LOG...\n  record FOLDER SCRIPT\n  seal FOLDER LOG\n  apply FOLDER SET\n  drill SEED LOGS STEPS\n  sync [--prefs FILE] K FOLDER... LOG...\n  explain [--prefs FILE] LOG...\n  undo SET\n  catchup SET...\n  rebase [--prefs FILE] SIDE WORK SET...\n";
     let refused = "treesync: words refused\n";
     let ordered = "treesnap 1\na d\na/b f:\na-b f:1\nend 3\n";
     let turned = "treesnap 1\na d\na-b f:1\na/b f:\nend 3\n";
@@ -532,50 +535,6 @@ const TRANSITIONS: &[Case] = &[
     ),
 ];
 
-/// The rules of a set, or what keeps it from being a merger.
-const STEERED_SETS: &[Case] = &[
-    (
-        "steer m l1 l2",
-        FOLDER_GONE,
-        FILE_BESIDE,
-        BOTH,
-        0,
-        "treeprefs 1\nat 1 a/x\nat 2 a/y\nend 2\n",
-    ),
-    (
-        "steer m l1 l2",
-        FOLDER_GONE,
-        FILE_BESIDE,
-        "treelog 1\na/x f:1 -\nend 1\n",
-        14,
-        "treesync: m: can add log 1 at a\n",
-    ),
-    (
-        "steer m l1 l2",
-        FOLDER_GONE,
-        FILE_BESIDE,
-        "treelog 1\na d -\nend 1\n",
-        14,
-        "treesync: m: does not fit at a/x\n",
-    ),
-    (
-        "steer m l1 l2",
-        FOLDER_GONE,
-        FILE_BESIDE,
-        "treelog 1\na/q - d\nend 1\n",
-        14,
-        "treesync: m: not drawn at a/q\n",
-    ),
-    (
-        "steer m l1 l2",
-        TORN,
-        FILE_BESIDE,
-        TORN,
-        6,
-        "treesync: m: line 3: no tree takes this log\n",
-    ),
-];
-
 /// Compares the answers of the cases.
 fn answer_cases<R: Abort>(rt: &R, alloc: Global, cases: &[Case]) -> Result<(), Fail> {
     for (words, l1, l2, third, status, written) in cases {
@@ -598,6 +557,7 @@ fn joins_have_their_answers(rt: HostRuntime) -> Result<(), Fail> {
     answer_cases(&rt, alloc, CLASHES)?;
     answer_cases(&rt, alloc, TRANSITIONS)?;
     answer_cases(&rt, alloc, STEERED_SETS)?;
+    answer_cases(&rt, alloc, SETS)?;
     Ok(())
 }
 

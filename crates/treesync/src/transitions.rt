@@ -12,6 +12,7 @@ ghost use Rattle.treesync.specs.Transition.{IsTransition, IsTransitionOf, IsTran
 
 use crate::Refusal;
 use crate::joining::{JoinedLogs, join_logs, read_logs};
+use crate::logs::FULL_ALLOWANCE;
 use crate::preferences::{preference_word, preferences, ranking_under};
 use log_text::print_log;
 use pref_list::{Ranking, Rule};
@@ -73,7 +74,7 @@ fn transition_under<F: Files>(
     ensures { Answers HasItems (IsTransitionOf number word rules.now names.now)
         (log_limits names.now) (F.files files.old) (F.files files.new) result }
 {
-    let logs = read_logs(alloc, names, files)?;
+    let logs = read_logs(alloc, FULL_ALLOWANCE, names, files)?;
     let joined = join_logs(alloc, names, logs)?;
     transitioned(alloc, number, word, rules, &joined)
 }

@@ -1,4 +1,4 @@
-//! The lines of clashes, written as they come.
+//! Lines that are written as they come, through a block, and those of clashes.
 
 ghost use Rattle.std.specs.Prelude.{◌≡◌, ◌+◌, ◌++◌, ◌∷◌, decimal, length, IfErr, IfOk, OnOk};
 ghost use Rattle.std.specs.List.{concat};
@@ -48,7 +48,7 @@ impl From<SinkFailed> for WriteFault {
 }
 
 /// Appends the number.
-fn push_number(line: &mut Vec<u8>, number: u64) -> Result<(), NoMemory>
+pub fn push_number(line: &mut Vec<u8>, number: u64) -> Result<(), NoMemory>
     ensures { OnOk result (line.new.items ≡ line.old.items ++ decimal number) }
 {
     let mut digits = Buffer::new();
@@ -57,7 +57,7 @@ fn push_number(line: &mut Vec<u8>, number: u64) -> Result<(), NoMemory>
 }
 
 /// Appends the text of the joint's node at a place, or nothing past the last.
-fn push_node(line: &mut Vec<u8>, joint: &Joint, place: usize) -> Result<(), NoMemory>
+pub fn push_node(line: &mut Vec<u8>, joint: &Joint, place: usize) -> Result<(), NoMemory>
     ensures { OnOk result
         (line.new.items ≡ line.old.items ++ node_text (path_at joint.now.nodes place)) }
 {
@@ -106,7 +106,7 @@ fn push_clash(line: &mut Vec<u8>, joint: &Joint, clash: Clash) -> Result<(), NoM
 }
 
 /// Sends the block where it is full.
-fn send_full<O: Sink>(block: &mut Vec<u8>, out: &mut O) -> Result<(), SinkFailed>
+pub fn send_full<O: Sink>(block: &mut Vec<u8>, out: &mut O) -> Result<(), SinkFailed>
     ensures faults { SinkFaults result (O.sink out.old) (O.sink out.new) }
     ensures contents { IfKnown (O.sink out.old) (O.sink out.new)
         (PassesOn block.old.items block.new.items result) }
@@ -137,7 +137,7 @@ fn write_line<O: Sink>(
 }
 
 /// One more than the count.
-fn one_more(count: u64) -> Result<u64, WriteFault>
+pub fn one_more(count: u64) -> Result<u64, WriteFault>
     ensures more { IfOk result (λ n. n ≡ count + 1) }
     ensures full { IfErr result (λ fault. fault ≡ Memory) }
 {
@@ -168,23 +168,28 @@ fn write_lines<O: Sink>(
     Ok(count)
 }
 
-/// Appends the line that says how many clashes there are.
-fn push_number_line(block: &mut Vec<u8>, number: u64) -> Result<(), NoMemory>
-    ensures { OnOk result (block.new.items ≡ block.old.items ++ number_line number) }
+/// Appends the line that says how many there are of what the word names.
+fn push_number_line(block: &mut Vec<u8>, word: &str, number: u64) -> Result<(), NoMemory>
+    ensures { OnOk result (block.new.items ≡ block.old.items ++ number_line word.now number) }
 {
-    block.extend_from_slice(texts::CLASHES.as_bytes())?;
+    block.extend_from_slice(word.as_bytes())?;
     push_number(block, number)?;
     block.push(b'\n')?;
     Ok(())
 }
 
-/// Writes the block, and after it how many clashes there are.
-fn write_number<O: Sink>(number: u64, block: &mut Vec<u8>, out: &mut O) -> Result<(), WriteFault>
+/// Writes the block, and after it how many there are of what the word names.
+pub fn write_number<O: Sink>(
+    word: &str,
+    number: u64,
+    block: &mut Vec<u8>,
+    out: &mut O,
+) -> Result<(), WriteFault>
     ensures faults { WriteFaults result (O.sink out.old) (O.sink out.new) }
     ensures contents { IfKnown (O.sink out.old) (O.sink out.new)
-        (WritesAll (block.old.items ++ number_line number) result) }
+        (WritesAll (block.old.items ++ number_line word.now number) result) }
 {
-    push_number_line(block, number)?;
+    push_number_line(block, word, number)?;
     send(out, block)?;
     Ok(())
 }
@@ -203,6 +208,6 @@ pub fn write_clashes<O: Sink>(alloc: Global, joint: &Joint, out: &mut O) -> Resu
     let mut clashes = Clashes::new(alloc, joint)?;
     let mut block = Vec::new(alloc);
     let number = write_lines(joint, &mut clashes, &mut block, out)?;
-    write_number(number, &mut block, out)?;
+    write_number(texts::CLASHES, number, &mut block, out)?;
     Ok(number)
 }

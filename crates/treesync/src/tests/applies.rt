@@ -128,19 +128,19 @@ const MACHINES: &[(&'static str, &'static str, &'static str)] = &[
     (SERVER, SERVER_LEFT, "applied 8\n"),
 ];
 
-fn rows_of(alloc: Global, snapshot: &[u8]) -> Result<Vec<Row>, Fail> {
+pub(super) fn rows_of(alloc: Global, snapshot: &[u8]) -> Result<Vec<Row>, Fail> {
     let (_, rows) = read_snapshot(alloc, snapshot)?;
     Ok(rows)
 }
 
 /// A tree that holds what the snapshot says, with these shots.
-fn tree_of(alloc: Global, snapshot: &[u8], shots: Vec<Shot>) -> Result<FuseTree, Fail> {
+pub(super) fn tree_of(alloc: Global, snapshot: &[u8], shots: Vec<Shot>) -> Result<FuseTree, Fail> {
     let (_, rows) = read_snapshot(alloc, snapshot)?;
     Ok(FuseTree::new(TreeMap::from_rows(alloc, rows)?, shots))
 }
 
 /// Whether the tree holds what the rows say and nothing else.
-fn holds(alloc: Global, tree: &mut Box<dyn Tree>, rows: &[Row]) -> Result<bool, Fail> {
+pub(super) fn holds(alloc: Global, tree: &mut Box<dyn Tree>, rows: &[Row]) -> Result<bool, Fail> {
     let mut listed: Vec<Path> = tree.children(alloc, None)?;
     for row in rows {
         if tree.holds(&row.path, &row.value) != Ok(true) {
@@ -202,7 +202,7 @@ fn sets_are_applied(rt: HostRuntime) -> Result<(), Fail> {
 }
 
 /// The snapshot of a machine's folder.
-fn folder_of(alloc: Global, log: &str) -> Result<Vec<u8>, Fail> {
+pub(super) fn folder_of(alloc: Global, log: &str) -> Result<Vec<u8>, Fail> {
     let mut files = MemFiles::new(alloc, Vec::new(alloc));
     files.add("s", COMMON.as_bytes())?;
     files.add("l", log.as_bytes())?;
@@ -227,46 +227,47 @@ fn three_machines_end_alike(rt: HostRuntime) -> Result<(), Fail> {
     Ok(())
 }
 
-/// Runs with a stop at the call, and again. Whether the first run met the stop.
+/// A set that is applied with a stop, a set that is applied then, the tree before and after, and how many changes there
+/// may be in all.
+#[derive(Drop)]
+struct Course<'a> {
+    set: &'a str,
+    then: &'a str,
+    start: &'a [u8],
+    end: &'a [Row],
+    work: u64,
+}
+
+/// Runs with a stop at the call, and then applies the second set. Whether the first run met the stop.
 fn stops_at<R: Abort>(
     rt: &R,
     alloc: Global,
-    set: &str,
-    start: &[u8],
-    end: &[Row],
+    course: &Course<'_>,
     shot: Shot,
-    work: u64,
 ) -> Result<bool, Fail> {
-    let tree = tree_of(alloc, start, vec![in alloc; shot]?)?;
+    let tree = tree_of(alloc, course.start, vec![in alloc; shot]?)?;
     let mut trees: Vec<Box<dyn Tree>> = Vec::new(alloc);
     trees.push(Box::new(alloc, tree)?)?;
-    let first = outcome(alloc, "apply w m", set, &mut trees)?;
+    let first = outcome(alloc, "apply w m", course.set, &mut trees)?;
     if first.0 == 0 {
         return Ok(false);
     }
     assert_eq!(rt; first.0, 10);
     assert!(rt; first.1.as_slice() == b"treesync: w: tree failed\n".as_slice());
-    let second = outcome(alloc, "apply w m", set, &mut trees)?;
+    let second = outcome(alloc, "apply w m", course.then, &mut trees)?;
     assert_eq!(rt; second.0, 0);
     for tree in &mut trees {
-        assert!(rt; tree.changed() <= work);
-        assert!(rt; holds(alloc, tree, end)?);
+        assert!(rt; tree.changed() <= course.work);
+        assert!(rt; holds(alloc, tree, course.end)?);
     }
     Ok(true)
 }
 
 /// Stops at each call in turn, until a run meets none; how many calls there were.
-fn stops<R: Abort>(
-    rt: &R,
-    alloc: Global,
-    set: &str,
-    start: &[u8],
-    end: &[Row],
-    work: u64,
-) -> Result<u64, Fail> {
+fn stops<R: Abort>(rt: &R, alloc: Global, course: &Course<'_>) -> Result<u64, Fail> {
     for call in 1..1000 {
-        let kept = stops_at(rt, alloc, set, start, end, Shot { call, done: false }, work)?;
-        let done = stops_at(rt, alloc, set, start, end, Shot { call, done: true }, work)?;
+        let kept = stops_at(rt, alloc, course, Shot { call, done: false })?;
+        let done = stops_at(rt, alloc, course, Shot { call, done: true })?;
         assert_eq!(rt; kept, done);
         if !kept {
             return Ok(call - 1);
@@ -275,16 +276,54 @@ fn stops<R: Abort>(
     Err(Fail::from("each call is a stop"))
 }
 
+/// The same set applied again after each stop.
+fn goes_on<R: Abort>(
+    rt: &R,
+    alloc: Global,
+    set: &str,
+    start: &[u8],
+    end: &[Row],
+    work: u64,
+) -> Result<u64, Fail> {
+    let course = Course {
+        set,
+        then: set,
+        start,
+        end,
+        work,
+    };
+    stops(rt, alloc, &course)
+}
+
 #[test]
 fn a_stopped_application_goes_on(rt: HostRuntime) -> Result<(), Fail> {
     let alloc = rt.alloc();
     let swapped = rows_of(alloc, SWAPPED.as_bytes())?;
-    let from_file = stops(&rt, alloc, SWAP, FILE.as_bytes(), &swapped, 3)?;
-    let half_done = stops(&rt, alloc, SWAP, NO_ROWS.as_bytes(), &swapped, 2)?;
+    let from_file = goes_on(&rt, alloc, SWAP, FILE.as_bytes(), &swapped, 3)?;
+    let half_done = goes_on(&rt, alloc, SWAP, NO_ROWS.as_bytes(), &swapped, 2)?;
     let ended = rows_of(alloc, ENDED.as_bytes())?;
     let desktop = folder_of(alloc, DESKTOP)?;
-    let whole = stops(&rt, alloc, DESKTOP_LEFT, &desktop, &ended, 14)?;
+    let whole = goes_on(&rt, alloc, DESKTOP_LEFT, &desktop, &ended, 14)?;
     // a look costs calls, and each change one
     assert!(rt; from_file > 3 && half_done > 2 && whole > 14);
+    Ok(())
+}
+
+#[test]
+fn a_stopped_application_is_undone(rt: HostRuntime) -> Result<(), Fail> {
+    let alloc = rt.alloc();
+    let mut none: Vec<Box<dyn Tree>> = Vec::new(alloc);
+    let undone = outcome(alloc, "undo m", SWAP, &mut none)?;
+    assert_eq!(rt; undone.0, 0);
+    assert!(rt; undone.1.as_slice() == b"treelog 1\na/x f:2 -\na d f:3\nend 2\n".as_slice());
+    let file = rows_of(alloc, FILE.as_bytes())?;
+    let course = Course {
+        set: SWAP,
+        then: "treelog 1\na/x f:2 -\na d f:3\nend 2\n",
+        start: FILE.as_bytes(),
+        end: &file,
+        work: 5,
+    };
+    assert!(rt; stops(&rt, alloc, &course)? > 3);
     Ok(())
 }

@@ -1,7 +1,7 @@
 use Rattle.std.proofs.Common.{◌≡◌, Ok}
 use Rattle.tool_words.specs.Help.{help_text}
 use Rattle.treesync.specs.Drill.{IsDrillOf}
-use Rattle.treesync.proofs.OutputLemmas.{answers_alone, answers_joint, answers_text}
+use Rattle.treesync.proofs.OutputLemmas.{answers_alone, answers_explained, answers_joint, answers_text}
 use Rattle.treesync.proofs.run.job_answer.Goals as goal
 
 pub returns-in-Help : goal.returns-in-Help
@@ -49,3 +49,18 @@ transition-requires-clause-few g c = let h = rw c.in-Transition.is at c.requires
 
 pub returns-in-Transition : goal.returns-in-Transition
 returns-in-Transition g c tree = rw c.in-Transition.is (answers_text _ _ _ _ c.transition.result c.of_text-in-Transition.result c.of_text-in-Transition.ensures c.transition.ensures)
+
+pub explain-requires : goal.explain-requires
+explain-requires g c = rw c.in-Explain.is at c.requires.few
+
+pub returns-in-Explain : goal.returns-in-Explain
+returns-in-Explain g c tree = rw c.in-Explain.is (answers_explained _ _ _ _ c.explain.result c.of_explained.result c.of_explained.ensures c.explain.ensures)
+
+pub returns-in-Undo : goal.returns-in-Undo
+returns-in-Undo g c tree = rw (c.in-Undo.is, ← c.place-in-Undo.ensures, ← c.as_str-in-Undo.ensures) (answers_text _ _ _ _ c.undo.result c.of_text-in-Undo.result c.of_text-in-Undo.ensures c.undo.ensures)
+
+pub returns-in-Catchup : goal.returns-in-Catchup
+returns-in-Catchup g c tree = rw c.in-Catchup.is (answers_text _ _ _ _ c.catchup.result c.of_text-in-Catchup.result c.of_text-in-Catchup.ensures c.catchup.ensures)
+
+pub returns-in-Rebase : goal.returns-in-Rebase
+returns-in-Rebase g c tree = rw c.in-Rebase.is (answers_text _ _ _ _ c.rebase.result c.of_text-in-Rebase.result c.of_text-in-Rebase.ensures c.rebase.ensures)

@@ -1,7 +1,8 @@
 use Rattle.std.proofs.Common.{map, string_bytes, ◌∙◌}
 use Rattle.std.proofs.lemmas.List.{length-map}
 use Rattle.treesync.proofs.Recordings.{prints_recorded}
-use Rattle.treesync.proofs.Running.{runs_applied, runs_clashes, runs_complete, runs_merger, runs_on, runs_rules, runs_sealed, runs_steered, runs_transition, runs_unready}
+use Rattle.treesync.proofs.RoundHeadlines.{answers_round, joins_replicas, keeps_unready_round, resumes_round}
+use Rattle.treesync.proofs.Running.{runs_applied, runs_catchup, runs_clashes, runs_complete, runs_merger, runs_on, runs_reasons, runs_rebase, runs_rules, runs_sealed, runs_steered, runs_transition, runs_undo, runs_unready}
 use Rattle.treesync.proofs.Unique.{answer_one}
 use Rattle.treesync.proofs.Words.{no_trees_of}
 use Rattle.treesync.proofs.run.run.Goals as goal
@@ -50,3 +51,27 @@ returns-clause-no_job g c = λ has e. (c.run_words.ensures.ends has).no_job e
 
 pub returns-clause-done : goal.returns-clause-done
 returns-clause-done g c = λ has e. (c.run_words.ensures.ends has).done e
+
+pub returns-clause-undoes : goal.returns-clause-undoes
+returns-clause-undoes g c = λ has. runs_undo _ _ _ _ (c.run_words.ensures.runs has)
+
+pub returns-clause-catches_up : goal.returns-clause-catches_up
+returns-clause-catches_up g c = λ has. runs_catchup _ _ _ _ (c.run_words.ensures.runs has)
+
+pub returns-clause-rebases : goal.returns-clause-rebases
+returns-clause-rebases g c = λ has. runs_rebase _ _ _ _ (c.run_words.ensures.runs has)
+
+pub returns-clause-explains : goal.returns-clause-explains
+returns-clause-explains g c = λ has. runs_reasons _ _ _ _ (c.run_words.ensures.runs has)
+
+pub returns-clause-syncs : goal.returns-clause-syncs
+returns-clause-syncs g c = λ has. resumes_round _ _ _ _ (c.run_words.ensures.runs has)
+
+pub returns-clause-joins : goal.returns-clause-joins
+returns-clause-joins g c = λ has. joins_replicas _ _ _ _ (c.run_words.ensures.runs has)
+
+pub returns-clause-unready_round : goal.returns-clause-unready_round
+returns-clause-unready_round g c = λ has. keeps_unready_round _ _ _ _ (c.run_words.ensures.runs has)
+
+pub returns-clause-rounds : goal.returns-clause-rounds
+returns-clause-rounds g c = λ has. answers_round _ _ _ _ (c.run_words.ensures.runs has)
