@@ -1,8 +1,8 @@
 """A plain program of the definitions in docs/MODEL.md and docs/FORMATS.md, slow and small, to compare the program with.
 
 It knows the texts of logs, snapshots, preferences and scripts with their faults, the answers of `replay`, `canon`,
-`merge`, `conflicts`, `transition` and `steer`, and what `record` does to a tree. An answer is the status, the output and
-the line of a refusal.
+`merge`, `conflicts`, `transition`, `steer`, `explain`, `undo`, `catchup` and `rebase`, and what `record` does to a tree.
+An answer is the status, the output and the line of a refusal.
 """
 
 import re
@@ -427,6 +427,63 @@ def log_of(command, nets):
     return next(number for number, commands in enumerate(nets, 1) if command in commands)
 
 
+def differences(nodes, now, wanted):
+    """The set that leads from one tree to another, where they differ at these nodes alone."""
+    return canonical([(p, value_at(now, p), value_at(wanted, p)) for p in nodes if value_at(now, p) != value_at(wanted, p)])
+
+
+# ---- why a drawn command is left out of a merger
+
+
+def is_denied(is_met, tree, merger, via):
+    """Whether a demand is passed on along the nodes of a list, and denied at the last."""
+    new = {path: value for path, _, value in merger}
+    *before, last = via
+    passed = all(p not in new and not is_met(value_at(tree, p)) for p in before)
+    return passed and last in new and not is_met(new[last])
+
+
+def is_chain(tree, merger, command, via):
+    """Whether the nodes are a chain for a command that the merger has not."""
+    node, _, new = command
+    if any(path == node for path, _, _ in merger):
+        return via == []
+    if not via:
+        return False
+    steps = list(zip([node, *via], via))
+    up = new != EMPTY and all(q == p[:-1] for p, q in steps)
+    down = new[0] != "d" and all(q[:-1] == p for p, q in steps)
+    return (up and is_denied(lambda value: value[0] == "d", tree, merger, via)) or (
+        down and is_denied(lambda value: value == EMPTY, tree, merger, via)
+    )
+
+
+def first_chain(tree, merger, command):
+    """The empty chain, or the one that leads up, or of those that lead down the one whose last node comes first."""
+    node = command[0]
+    ups = [[node[:depth] for depth in range(len(node) - 1, end, -1)] for end in range(len(node) - 1)]
+    lows = sorted(path for path, _, _ in merger if len(path) > len(node) and path[: len(node)] == node)
+    downs = [[low[:depth] for depth in range(len(node) + 1, len(low) + 1)] for low in lows]
+    return next(via for via in [[], *ups, *downs] if is_chain(tree, merger, command, via))
+
+
+# ---- undoing and composing
+
+
+def inverse(commands):
+    return canonical([(path, new, old) for path, old, new in commands])
+
+
+def composed(nets, words):
+    """The composition of sets; refuses those that do not follow one another."""
+    chain = [(word, command) for word, commands in zip(words, nets) for command in commands]
+    number = broken_at([command for _, command in chain])
+    if number is not None:
+        word, command = chain[number - 1]
+        raise Fault(18, b"%s: does not follow at %s" % (word, path_text(command[0])))
+    return net([command for _, command in chain])
+
+
 # ---- the answers of jobs; `files` has the bytes under each name
 
 
@@ -478,10 +535,8 @@ def merge(files, prefs, *words):
 
 def transition(files, prefs, number, *words):
     version, nets, tree, merger = merging(files, prefs, words)
-    now, wanted = fits(tree, nets[number - 1]), fits(tree, merger)
     nodes = {c[0] for c in nets[number - 1] + merger}
-    changes = [(p, value_at(now, p), value_at(wanted, p)) for p in nodes if value_at(now, p) != value_at(wanted, p)]
-    return 0, log_text(version, canonical(changes))
+    return 0, log_text(version, differences(nodes, fits(tree, nets[number - 1]), fits(tree, merger)))
 
 
 def conflicts(files, *words):
@@ -522,6 +577,40 @@ def steer(files, word, *words):
         if command not in chosen and fits(tree, [*chosen, command]) is not None:
             raise Fault(14, b"%s: can add log %d at %s" % (word, log_of(command, nets), path_text(command[0])))
     return 0, text_of(b"treeprefs", 1, [b"at %d %s" % (log_of(c, nets), path_text(c[0])) for c in chosen])
+
+
+def explain(files, prefs, *words):
+    _, nets, tree, merger = merging(files, prefs, words)
+    lines = []
+    for command in dict.fromkeys(c for commands in nets for c in commands):
+        if command not in merger:
+            via = [command[0], *first_chain(tree, merger, command)]
+            first, *rest = map(path_text, via)
+            lines.append(b" ".join([b"%d" % log_of(command, nets), first, b"taken", *rest]))
+    return 0, b"".join(line + b"\n" for line in [*lines, b"left %d" % len(lines)])
+
+
+def undo(files, word):
+    version, commands = read_log(files, word)
+    taken_or_refused([commands], [word])
+    return 0, log_text(version, inverse(net(commands)))
+
+
+def catchup(files, *words):
+    version, logs = read_logs(files, words)
+    taken_or_refused(logs, words)
+    return 0, log_text(version, composed(list(map(net, logs)), words))
+
+
+def rebase(files, prefs, side, work, *words):
+    rules = read("preferences", files[prefs], prefs)[1] if prefs else []
+    version, (recorded, *sets) = read_logs(files, [work, *words])
+    taken_or_refused([recorded, *sets], [work, *words])
+    logs = [recorded, composed(list(map(net, sets)), words)]
+    tree, nets = joined(logs), list(map(net, logs))
+    merger = first_merger(ranking(nets, rules, prefs))
+    mine = nets[{b"tree": 0, b"next": 1}[side]]
+    return 0, log_text(version, differences({c[0] for c in mine + merger}, fits(tree, mine), fits(tree, merger)))
 
 
 def answer(job, *words):
