@@ -34,13 +34,13 @@ depth_less rows i k p q e f less = subst (λ m. m < depth_at rows i) (sym (ap de
 pub record UpTo (t : Holding) (rows : List Row) (ms : List Change) (n : Node) (via : List ℕ) (at : ℕ) : Type 0 where
   pub node : Node
   pub here : path_at rows at ≡ Some node
-  pub front : List Node
-  pub along : AreAt rows via front
-  pub way : way_up ms n ≡ front ++ way_up ms node
+  pub prefix : List Node
+  pub along : AreAt rows via prefix
+  pub way : way_up ms n ≡ prefix ++ way_up ms node
   pub denied : is_denied is_dir t ms (way_up ms n) ≡ is_denied is_dir t ms (way_up ms node)
 
 pub up_start : (t : Holding) (rows : List Row) (ms : List Change) (n : Node) (place : ℕ) → path_at rows place ≡ Some n → UpTo t rows ms n [] place
-up_start t rows ms n place e = record { node = n; here = e; front = []; along = refl; way = refl; denied = refl }
+up_start t rows ms n place e = record { node = n; here = e; prefix = []; along = refl; way = refl; denied = refl }
 
 module _ (j : Joined) (is : IsJoint j) (ms : List Change) (n : Node) (via : List ℕ) (at : ℕ) (u : UpTo (first_tree j) j.nodes ms n via at) where
   pub up_low : at < length j.nodes
@@ -67,7 +67,7 @@ module _ (j : Joined) (is : IsJoint j) (ms : List Change) (n : Node) (via : List
       -- at a command the way ends
       pub up_taken : (d : Change) → command_at ms q ≡ Some d → is_dir d.new ≡ false → AreAt j.nodes (via ++ up ∷ []) (way_up ms n) × (is_denied is_dir (first_tree j) ms (way_up ms n) ≡ true)
       up_taken d some bare = (
-        subst (AreAt j.nodes (via ++ up ∷ [])) (sym (u.way ∙ ap (λ l. u.front ++ l) (up_some ms u.node q d is_over some))) (at_more j.nodes via u.front up q u.along there),
+        subst (AreAt j.nodes (via ++ up ∷ [])) (sym (u.way ∙ ap (λ l. u.prefix ++ l) (up_some ms u.node q d is_over some))) (at_more j.nodes via u.prefix up q u.along there),
         u.denied ∙ ap (is_denied is_dir (first_tree j) ms) (up_some ms u.node q d is_over some) ∙ ap (denies is_dir) some ∙ ap not bare,
       )
 
@@ -85,9 +85,9 @@ module _ (j : Joined) (is : IsJoint j) (ms : List Change) (n : Node) (via : List
         up_on bare = record {
           node = q;
           here = there;
-          front = u.front ++ q ∷ [];
-          along = at_more j.nodes via u.front up q u.along there;
-          way = u.way ∙ ap (λ l. u.front ++ l) (up_none ms u.node q is_over none) ∙ sym (append_assoc u.front (q ∷ []) (way_up ms q));
+          prefix = u.prefix ++ q ∷ [];
+          along = at_more j.nodes via u.prefix up q u.along there;
+          way = u.way ∙ ap (λ l. u.prefix ++ l) (up_none ms u.node q is_over none) ∙ sym (append_assoc u.prefix (q ∷ []) (way_up ms q));
           denied = u.denied ∙ ap (is_denied is_dir (first_tree j) ms) (up_none ms u.node q is_over none) ∙ on_none is_dir (first_tree j) ms q none (ap is_dir holds ∙ bare) (way_up ms q);
         }
 
@@ -108,12 +108,12 @@ pub record DownTo (rows : List Row) (n p : Node) (via : List ℕ) (at : ℕ) : T
   pub node : Node
   pub here : path_at rows at ≡ Some node
   pub low : (node ≡ n) ⊎ (is_under node n ≡ true)
-  pub front : List Node
-  pub along : AreAt rows via front
-  pub way : way_down n (drop (length n) p) ≡ way_down n (drop (length n) node) ++ reverse front
+  pub prefix : List Node
+  pub along : AreAt rows via prefix
+  pub way : way_down n (drop (length n) p) ≡ way_down n (drop (length n) node) ++ reverse prefix
 
 pub down_start : (rows : List Row) (n p : Node) (low : ℕ) → path_at rows low ≡ Some p → is_under p n ≡ true → DownTo rows n p [] low
-down_start rows n p low e under = record { node = p; here = e; low = inr under; front = []; along = refl; way = sym (append-nil (way_down n (drop (length n) p))) }
+down_start rows n p low e under = record { node = p; here = e; low = inr under; prefix = []; along = refl; way = sym (append-nil (way_down n (drop (length n) p))) }
 
 module _ (j : Joined) (is : IsJoint j) (n p : Node) (via : List ℕ) (at : ℕ) (d : DownTo j.nodes n p via at) (place : ℕ) (top : path_at j.nodes place ≡ Some n) where
   pub down_low : at < length j.nodes
@@ -122,7 +122,7 @@ module _ (j : Joined) (is : IsJoint j) (n p : Node) (via : List ℕ) (at : ℕ) 
   pub down_ends : at ≡ place → AreAt j.nodes (reverse via) (way_down n (drop (length n) p))
   down_ends same =
       let own : d.node ≡ n = some_is (sym d.here ∙ ap (path_at j.nodes) same ∙ top) in
-      subst (AreAt j.nodes (reverse via)) (sym (d.way ∙ ap (λ l. l ++ reverse d.front) (ap (λ q. way_down n (drop (length n) q)) own ∙ down_own n))) (at_reverse j.nodes via d.front d.along)
+      subst (AreAt j.nodes (reverse via)) (sym (d.way ∙ ap (λ l. l ++ reverse d.prefix) (ap (λ q. way_down n (drop (length n) q)) own ∙ down_own n))) (at_reverse j.nodes via d.prefix d.along)
 
   module _ (apart : at ≡ place → ⊥) where
     below : is_under d.node n ≡ true
@@ -150,10 +150,10 @@ module _ (j : Joined) (is : IsJoint j) (n p : Node) (via : List ℕ) (at : ℕ) 
         node = upper.0;
         here = upper.2;
         low = low;
-        front = d.front ++ d.node ∷ [];
-        along = at_more j.nodes via d.front at d.node d.along d.here;
-        way = d.way ∙ ap (λ l. l ++ reverse d.front) (down_step n d.node upper.0 upper.1 low) ∙ append_assoc (way_down n (drop (length n) upper.0)) (d.node ∷ []) (reverse d.front)
-            ∙ ap (λ l. way_down n (drop (length n) upper.0) ++ l) (sym (reverse-last d.front d.node));
+        prefix = d.prefix ++ d.node ∷ [];
+        along = at_more j.nodes via d.prefix at d.node d.along d.here;
+        way = d.way ∙ ap (λ l. l ++ reverse d.prefix) (down_step n d.node upper.0 upper.1 low) ∙ append_assoc (way_down n (drop (length n) upper.0)) (d.node ∷ []) (reverse d.prefix)
+            ∙ ap (λ l. way_down n (drop (length n) upper.0) ++ l) (sym (reverse-last d.prefix d.node));
       }
         where
           low : (upper.0 ≡ n) ⊎ (is_under upper.0 n ≡ true)

@@ -119,7 +119,7 @@ listing_on r p t u v found stack old more next_found next ch trees is popped rea
       later = fell_on t.counts u.counts v.counts is.later reads.later;
       contents = reads.contents ∙ is.contents;
       found_below = subst (All (IsAtOrUnder p)) (sym added) (All-push (IsAtOrUnder p) found next is.found_below here);
-      stack_below = subst (All (IsAtOrUnder p)) (sym pushed) (All-append (IsAtOrUnder p) stack (backwards ch) (front stack next parts) (all_backwards (IsAtOrUnder p) ch (children_under p next ch here below.parents)));
+      stack_below = subst (All (IsAtOrUnder p)) (sym pushed) (All-append (IsAtOrUnder p) stack (backwards ch) (prefix stack next parts) (all_backwards (IsAtOrUnder p) ch (children_under p next ch here below.parents)));
       known = held_step t.contents trees is.known (subst (λ c. IfHeld c (λ m. AreChildren (at m) (Some next) ch)) is.contents children)
           (λ m tree rest are. subst (λ s. IsRest m p s more) (sym added) (subst (IsRest m p (found ++ next ∷ [])) (sym pushed) (rest_on m tree p found stack next ch are below (subst (IsRest m p found) popped rest))));
     }
@@ -128,8 +128,8 @@ listing_on r p t u v found stack old more next_found next ch trees is popped rea
     last [] next h = h 0 next (omega arith)
     last (x ∷ stack) next h = last stack next (λ k d low. h (suc k) d (omega arith))
 
-    front : (stack : List Node) (next : Node) → All (IsAtOrUnder p) (stack ++ next ∷ []) → All (IsAtOrUnder p) stack
-    front stack next h = go stack h
+    prefix : (stack : List Node) (next : Node) → All (IsAtOrUnder p) (stack ++ next ∷ []) → All (IsAtOrUnder p) stack
+    prefix stack next h = go stack h
       where
         go : (s : List Node) → All (IsAtOrUnder p) (s ++ next ∷ []) → All (IsAtOrUnder p) s
         go [] h = λ k d low. absurd (omega (arith, low))

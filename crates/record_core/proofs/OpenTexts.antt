@@ -32,7 +32,7 @@ use Rattle.record_core.specs.Outcomes.{RecordsScript, outcome_of}
 use Rattle.record_core.specs.Recording.{AfterLines, InFirst, IsClosed, LeavesOpen}
 use Rattle.record_core.specs.Seals.{IsAllOrAllButLast, IsLogOf, IsSealed, LeavesLog, OpenLog}
 use Rattle.record_core.proofs.OneCommand.{text_one}
-use Rattle.record_core.proofs.SealedLists.{front_passes}
+use Rattle.record_core.proofs.SealedLists.{prefix_passes}
 use Rattle.record_core.proofs.SealLaws.{done_is_sealed}
 use Rattle.record_core.specs.Texts.{closed_text, end_line_of, first_line, line_of, lines_of, open_text}
 
@@ -332,25 +332,25 @@ cut_line (x ∷ body) (suc size) (f, h) = go (cut_line body size h)
 
 -- ---- what a recording leaves
 
-takes_front : (t : Holding) (cs more : List Change) → Takes t (cs ++ more) → Takes t cs
-takes_front t [] more h = tt
-takes_front t (c ∷ cs) more h = (h.0, takes_front (put t c.node c.new) cs more h.1)
+takes_prefix : (t : Holding) (cs more : List Change) → Takes t (cs ++ more) → Takes t cs
+takes_prefix t [] more h = tt
+takes_prefix t (c ∷ cs) more h = (h.0, takes_prefix (put t c.node c.new) cs more h.1)
 
-log_front : (version : Version) (cs more : List Change) → IsLog version (cs ++ more) → IsLog version cs
-log_front version cs more is = let few = is.few in let size = length-append cs more in record { few = omega (arith, few, size); each = front_passes (IsCommand version) cs more is.each }
+log_prefix : (version : Version) (cs more : List Change) → IsLog version (cs ++ more) → IsLog version cs
+log_prefix version cs more is = let few = is.few in let size = length-append cs more in record { few = omega (arith, few, size); each = prefix_passes (IsCommand version) cs more is.each }
 
 left : (cs : List Change) (w x : SinkContents) (m n : Store) (gained : List ℕ) (log : OpenLog) (rest done : List Change) → x.written ≡ w.written ++ gained → IsLogOf gained log → cs ≡ log.commands ++ rest → IsAllOrAllButLast log done → n ≡ stored m done → Takes (at m) cs → LeavesLog cs w x m n
-left cs w x m n gained log rest done written read front which tree takes = record {
+left cs w x m n gained log rest done written read prefix which tree takes = record {
   gained = gained;
   written = written;
   log = log;
   read = read;
   rest = rest;
-  front = front;
+  prefix = prefix;
   done = done;
   which = which;
   tree = tree;
-  is_sealed = subst (λ (s : Store). IsSealed log (at s) done) (sym tree) (done_is_sealed m log done (takes_front (at m) log.commands rest (subst (Takes (at m)) front takes)) which);
+  is_sealed = subst (λ (s : Store). IsSealed log (at s) done) (sym tree) (done_is_sealed m log done (takes_prefix (at m) log.commands rest (subst (Takes (at m)) prefix takes)) which);
 }
 
 abbrev open_of : Bool → Version → List Change → OpenLog
@@ -360,13 +360,13 @@ open_of ended version cs = record { version = version; commands = cs; ended = en
 lines_left : (version : Version) (cs done rest : List Change) (b : List ℕ) (w x : SinkContents) (m n : Store) → IsLog version cs → Takes (at m) cs → cs ≡ done ++ rest → IsClear 10 b → x.written ≡ w.written ++ (open_text version done ++ b) → n ≡ stored m done → LeavesLog cs w x m n
 lines_left version cs done rest b w x m n is takes all clear written tree =
     left cs w x m n (open_text version done ++ b) (open_of false version done) rest done written
-    (subst (λ t. IsOpenLog t version done false) (sym (ended_open version done b clear)) (open_is version done (log_front version done rest (subst (IsLog version) all is)))) all (inl refl) tree takes
+    (subst (λ t. IsOpenLog t version done false) (sym (ended_open version done b clear)) (open_is version done (log_prefix version done rest (subst (IsLog version) all is)))) all (inl refl) tree takes
 
 -- a closed log
 closed_left : (version : Version) (cs done : List Change) (w x : SinkContents) (m n : Store) → IsLog version cs → Takes (at m) cs → cs ≡ done ++ [] → x.written ≡ w.written ++ closed_text version done → n ≡ stored m done → LeavesLog cs w x m n
 closed_left version cs done w x m n is takes all written tree =
     left cs w x m n (closed_text version done) (open_of true version done) [] done written
-    (subst (λ t. IsOpenLog t version done true) (sym (ended_closed version done)) (closed_log version done (log_front version done [] (subst (IsLog version) all is)))) all (inl refl) tree takes
+    (subst (λ t. IsOpenLog t version done true) (sym (ended_closed version done)) (closed_log version done (log_prefix version done [] (subst (IsLog version) all is)))) all (inl refl) tree takes
 
 -- the line of one command more
 line_left : (version : Version) (cs done rest : List Change) (c : Change) (w x : SinkContents) (m n : Store) → IsLog version cs → Takes (at m) cs → cs ≡ done ++ (c ∷ rest) → x.written ≡ w.written ++ (open_text version done ++ line_of c) → n ≡ stored m done → LeavesLog cs w x m n
@@ -374,7 +374,7 @@ line_left version cs done rest c w x m n is takes all written tree =
     let more : cs ≡ (done ++ c ∷ []) ++ rest = all ∙ sym (append_assoc done (c ∷ []) rest) in
     let text : open_text version done ++ line_of c ≡ open_text version (done ++ c ∷ []) ++ [] = sym (append-nil (open_text version (done ++ c ∷ [])) ∙ text_one version done c) in
     left cs w x m n (open_text version (done ++ c ∷ []) ++ []) (open_of false version (done ++ c ∷ [])) rest done (written ∙ ap (λ t. w.written ++ t) text)
-    (subst (λ t. IsOpenLog t version (done ++ c ∷ []) false) (sym (ended_open version (done ++ c ∷ []) [] tt)) (open_is version (done ++ c ∷ []) (log_front version (done ++ c ∷ []) rest (subst (IsLog version) more is)))) more (inr (refl, (c, refl))) tree takes
+    (subst (λ t. IsOpenLog t version (done ++ c ∷ []) false) (sym (ended_open version (done ++ c ∷ []) [] tt)) (open_is version (done ++ c ∷ []) (log_prefix version (done ++ c ∷ []) rest (subst (IsLog version) more is)))) more (inr (refl, (c, refl))) tree takes
 
 -- nothing but the first bytes of the first line
 first_left : (cs : List Change) (b : List ℕ) (w x : SinkContents) (m n : Store) → Takes (at m) cs → IsClear 10 b → x.written ≡ w.written ++ b → n ≡ m → LeavesLog cs w x m n
@@ -388,7 +388,7 @@ leaves_open_log version cs w x m n is takes (InFirst size written tree) = go (cu
     go (inl clear) = first_left cs (take size (first_line version)) w x m n takes clear written tree
     go (inr whole) = lines_left version cs [] cs [] w x m n is takes refl tt
         (written ∙ ap (λ t. w.written ++ t) (whole ∙ sym (append-nil (first_line version ++ []) ∙ append-nil (first_line version)))) tree
-leaves_open_log version cs w x m n is takes (AfterLines done [] size all written covers tree) = go (cut_line (end_line (length done)) size (end_clear (length done) (log_front version done [] (subst (IsLog version) all is)).few))
+leaves_open_log version cs w x m n is takes (AfterLines done [] size all written covers tree) = go (cut_line (end_line (length done)) size (end_clear (length done) (log_prefix version done [] (subst (IsLog version) all is)).few))
   where
     go : IsClear 10 (take size (end_line_of done)) ⊎ (take size (end_line_of done) ≡ end_line_of done) → LeavesLog cs w x m n
     go (inl clear) = lines_left version cs done [] (take size (end_line_of done)) w x m n is takes all clear written tree

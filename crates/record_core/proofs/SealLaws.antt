@@ -94,17 +94,17 @@ exclude log t done last change holds un =
 not_longer : (xs : List Change) (x : Change) (n : ℕ) → n ≡ length (xs ++ x ∷ []) → n ≡ 0 → ⊥
 not_longer xs x n e z = let h = length-append xs (x ∷ []) in omega (arith, h)
 
-same_front : (xs ys : List Change) (x y : Change) → xs ++ x ∷ [] ≡ ys ++ y ∷ [] → xs ≡ ys
-same_front [] [] x y e = refl
-same_front [] (b ∷ ys) x y e = absurd (not_longer ys y (length (drop 1 (x ∷ []))) (ap (λ l. length (drop 1 l)) e) refl)
-same_front (a ∷ xs) [] x y e = absurd (not_longer xs x (length (drop 1 (y ∷ []))) (ap (λ l. length (drop 1 l)) (sym e)) refl)
-same_front (a ∷ xs) (b ∷ ys) x y e = let h : xs ≡ ys = same_front xs ys x y (ap (drop 1) e) in let k : a ≡ b = cc in ap (λ l. a ∷ l) h ∙ ap (λ c. c ∷ ys) k
+same_prefix : (xs ys : List Change) (x y : Change) → xs ++ x ∷ [] ≡ ys ++ y ∷ [] → xs ≡ ys
+same_prefix [] [] x y e = refl
+same_prefix [] (b ∷ ys) x y e = absurd (not_longer ys y (length (drop 1 (x ∷ []))) (ap (λ l. length (drop 1 l)) e) refl)
+same_prefix (a ∷ xs) [] x y e = absurd (not_longer xs x (length (drop 1 (y ∷ []))) (ap (λ l. length (drop 1 l)) (sym e)) refl)
+same_prefix (a ∷ xs) (b ∷ ys) x y e = let h : xs ≡ ys = same_prefix xs ys x y (ap (drop 1) e) in let k : a ≡ b = cc in ap (λ l. a ∷ l) h ∙ ap (λ c. c ∷ ys) k
 
 pub only_one : (log : OpenLog) (t : Holding) (one other : List Change) → all_change log.commands ≡ true → IsSealed log t one → IsSealed log t other → one ≡ other
 only_one log t one other change (inl a) (inl b) = a.0 ∙ sym b.0
 only_one log t one other change (inl a) (inr b) = absurd (exclude log t other b.0 change a.1 b.1.0)
 only_one log t one other change (inr a) (inl b) = absurd (exclude log t one a.0 change b.1 a.1.0)
-only_one log t one other change (inr a) (inr b) = same_front one other a.0 b.0 (sym a.1.0.all ∙ b.1.0.all)
+only_one log t one other change (inr a) (inr b) = same_prefix one other a.0 b.0 (sym a.1.0.all ∙ b.1.0.all)
 
 -- ---- no node diverges
 

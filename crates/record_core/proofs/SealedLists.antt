@@ -82,9 +82,9 @@ end_is (d ∷ k ∷ done) c = ap (slice_get (d ∷ (k ∷ done ++ c ∷ []))) ba
     back : length (d ∷ (k ∷ done ++ c ∷ [])) - 1 ≡ suc (length (k ∷ done ++ c ∷ []) - 1)
     back = omega arith
 
-pub front_passes : (P : Change → Type 0) (cs more : List Change) → AllByRecursion P (cs ++ more) → AllByRecursion P cs
-front_passes P [] more h = tt
-front_passes P (c ∷ cs) more h = (h.0, front_passes P cs more h.1)
+pub prefix_passes : (P : Change → Type 0) (cs more : List Change) → AllByRecursion P (cs ++ more) → AllByRecursion P cs
+prefix_passes P [] more h = tt
+prefix_passes P (c ∷ cs) more h = (h.0, prefix_passes P cs more h.1)
 
 -- ---- a log and its sum
 
@@ -139,13 +139,13 @@ module _ (log : OpenLog) (s : Sum) (st : StandsFor s log.commands) (t : Holding)
   sealed_whole : Shows t undone s.touched all_touched shown.Done → IsSealed log t log.commands
   sealed_whole shows = inl (refl, λ n d e. ap t (command_at-node (touches log.commands) n d e) ∙ shows (touch_of log.commands d) (here s log.commands st n d e))
 
-  sealed_front : (rest : List Change) → ((c : Change) → open_command false log.commands ≡ Some c → log.commands ≡ rest ++ c ∷ []) → Shows t undone s.touched all_touched shown.Undone → IsSealed log t rest
-  sealed_front rest front shows =
+  sealed_prefix : (rest : List Change) → ((c : Change) → open_command false log.commands ≡ Some c → log.commands ≡ rest ++ c ∷ []) → Shows t undone s.touched all_touched shown.Undone → IsSealed log t rest
+  sealed_prefix rest prefix shows =
       let o = open_at t log.ended log.commands shows.0.0 shows.0.1 in
       inr (
         o.last,
         (
-          record { all = front o.last o.at_end; no_end = o.no_end; old = sym (ap t o.node) ∙ o.old },
+          record { all = prefix o.last o.at_end; no_end = o.no_end; old = sym (ap t o.node) ∙ o.old },
           λ n apart d e.
               well o.last o.at_end n apart d e (shows.1 (touch_of log.commands d) (here s log.commands st n d e)),
         ),
@@ -212,12 +212,12 @@ all_done log cs ds es ended s u found held e b f g st is f' shows =
 
 pub last_undone : (log : OpenLog) (cs ds es rest : List Change) (ended : Bool) (s : Sum) (u : Option Change) (found : Shown) (held : Option Store) → log.commands ≡ cs → log.ended ≡ ended → ds ≡ cs → es ≡ cs → StandsFor s ds → u ≡ open_command ended es → found ≡ shown.Undone →
     IfHeld held (λ m. IsRightLook (Shows (at m) u s.touched (length s.touched)) (Ok found)) → ((c : Change) → open_command false cs ≡ Some c → cs ≡ rest ++ c ∷ []) → SealsLog log held rest
-last_undone log cs ds es rest ended s u found held e b f g st is f' shows front =
+last_undone log cs ds es rest ended s u found held e b f g st is f' shows prefix =
     let st' = stands_as log s cs ds e f st in
     record {
       taken = st'.taken;
       change = st'.change;
-      is_sealed = held_as held (λ m h. sealed_front log s st' (at m) rest (subst (λ (l : List Change). (c : Change) → open_command false l ≡ Some c → l ≡ rest ++ c ∷ []) (sym e) front) h)
+      is_sealed = held_as held (λ m h. sealed_prefix log s st' (at m) rest (subst (λ (l : List Change). (c : Change) → open_command false l ≡ Some c → l ≡ rest ++ c ∷ []) (sym e) prefix) h)
           (shows_as held u (open_command log.ended log.commands) s.touched (length s.touched) found shown.Undone (undone_as log cs es ended u e b g is) f' shows);
     }
 

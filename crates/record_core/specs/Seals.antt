@@ -56,7 +56,7 @@ pub record LeavesLog (cs : List Change) (w x : SinkContents) (m n : Store) : Typ
   pub log : OpenLog
   pub read : IsLogOf gained log
   pub rest : List Change
-  pub front : cs ≡ log.commands ++ rest
+  pub prefix : cs ≡ log.commands ++ rest
   pub done : List Change
   pub which : IsAllOrAllButLast log done
   pub tree : n ≡ stored m done

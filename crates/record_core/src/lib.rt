@@ -18,8 +18,6 @@ mod sealing;
 mod stepping;
 mod steps;
 mod subtrees;
-#[cfg(test)]
-mod tests;
 mod walking;
 mod words;
 

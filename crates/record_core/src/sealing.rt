@@ -180,7 +180,7 @@ fn look(
 
 /// The commands without the last one.
 fn without_last(commands: Vec<Command>) -> Vec<Command>
-    ensures front { (more : List Change) × (commands.items ≡ result.items ++ more) }
+    ensures prefix { (more : List Change) × (commands.items ≡ result.items ++ more) }
     ensures last { (c : Change) → open_command false commands.items ≡ Some c →
         commands.items ≡ result.items ++ c ∷ [] }
 {

@@ -104,9 +104,9 @@ here_root cs t p up b = let e : ◌≡◌ {A = Option Node} None (Some b.above) 
 pub here_named : (cs : List Change) (t : Holding) (c d : Change) (q : Node) → IsFitting cs → command_at cs c.node ≡ Some c → parent c.node ≡ Some q → command_at cs q ≡ Some d → IsBlocked cs t c.node → ⊥
 here_named cs t c d q fitting named up at_q b = named_free cs t c.node q c d fitting up named at_q b.full (blocked_flat cs t c.node q up b)
 
-pub here_told : (cs : List Change) (t : Holding) (c : Change) (q : Node) → command_at cs c.node ≡ Some c → is_empty c.new ≡ false → parent c.node ≡ Some q → command_at cs q ≡ None → (b : Bool) → b ≡ is_dir (t q) →
+pub here_known : (cs : List Change) (t : Holding) (c : Change) (q : Node) → command_at cs c.node ≡ Some c → is_empty c.new ≡ false → parent c.node ≡ Some q → command_at cs q ≡ None → (b : Bool) → b ≡ is_dir (t q) →
     IsTrue (not b) ↔ IsBlocked cs t c.node
-here_told cs t c q named full up at_q b is = (
+here_known cs t c q named full up at_q b is = (
   λ h. record {
     full = ap is_empty (after_at cs t c.node c named) ∙ full;
     above = q;
@@ -260,14 +260,14 @@ pub record LooksHere (cs : List Change) (t : Holding) (c : Change) (old new : Op
   pub here : IsBlocked cs t c.node → Covers new c.node
 
 pub here_kept : (cs : List Change) (t : Holding) (c : Change) (b : Bool) (path : Node) (old new : Option Node) → IsTrue b ↔ IsBlocked cs t c.node → b ≡ true → path ≡ c.node → KeepsFirst path old new → LooksHere cs t c old new
-here_kept cs t c b path old new tells so is keeps = record {
-  right = right_one cs t path old new keeps (subst (IsBlocked cs t) (sym is) (tells.0 so));
+here_kept cs t c b path old new says so is keeps = record {
+  right = right_one cs t path old new keeps (subst (IsBlocked cs t) (sym is) (says.0 so));
   still = keeps.still;
   here = λ blocked. keeps.more c.node (ap (comes_before c.node) is ∙ before_irrefl c.node);
 }
 
 pub here_passed : (cs : List Change) (t : Holding) (c : Change) (b : Bool) (old : Option Node) → IsTrue b ↔ IsBlocked cs t c.node → b ≡ false → LooksHere cs t c old old
-here_passed cs t c b old tells not_so = record { right = λ r. r; still = λ p c. c; here = λ blocked. absurd (no_both b (tells.1 blocked) not_so) }
+here_passed cs t c b old says not_so = record { right = λ r. r; still = λ p c. c; here = λ blocked. absurd (no_both b (says.1 blocked) not_so) }
 
 pub below_kept : (cs : List Change) (t : Holding) (c : Change) (path : Node) (old mid new : Option Node) → LooksHere cs t c old mid → FindsBelow cs t c (Some path) → KeepsFirst path mid new → LooksAt cs t c old new
 below_kept cs t c path old mid new looks finds keeps = record {
@@ -467,10 +467,10 @@ seeking_ends cs i s0 s1 first h seeking = (
 
 pub here_kept_all : (cs : List Change) (c : Change) (b : Bool) (path : Node) (old mid new : Option Node) (t : Option Store) → b ≡ true → path ≡ c.node → KeepsFirst path old new → mid ≡ new →
     IfHeld t (λ m. IsTrue b ↔ IsBlocked cs (at m) c.node) → IfHeld t (λ m. LooksHere cs (at m) c old mid)
-here_kept_all cs c b path old mid new t so is keeps same tells = held_as t (λ m h. subst (LooksHere cs (at m) c old) (sym same) (here_kept cs (at m) c b path old new h so is keeps)) tells
+here_kept_all cs c b path old mid new t so is keeps same says = held_as t (λ m h. subst (LooksHere cs (at m) c old) (sym same) (here_kept cs (at m) c b path old new h so is keeps)) says
 
 pub here_passed_all : (cs : List Change) (c : Change) (b : Bool) (old mid : Option Node) (t : Option Store) → b ≡ false → mid ≡ old → IfHeld t (λ m. IsTrue b ↔ IsBlocked cs (at m) c.node) → IfHeld t (λ m. LooksHere cs (at m) c old mid)
-here_passed_all cs c b old mid t not_so same tells = held_as t (λ m h. subst (LooksHere cs (at m) c old) (sym same) (here_passed cs (at m) c b old h not_so)) tells
+here_passed_all cs c b old mid t not_so same says = held_as t (λ m h. subst (LooksHere cs (at m) c old) (sym same) (here_passed cs (at m) c b old h not_so)) says
 
 pub below_kept_all : (cs : List Change) (c : Change) (o : Option Node) (path : Node) (old mid last new : Option Node) (t0 t1 : Option Store) → o ≡ Some path → KeepsFirst path mid new → last ≡ new → t1 ≡ t0 →
     IfHeld t0 (λ m. LooksHere cs (at m) c old mid) → IfHeld t1 (λ m. FindsBelow cs (at m) c o) → IfHeld t0 (λ m. LooksAt cs (at m) c old last)

@@ -1,7 +1,6 @@
-pub mod ApplyLaws
 pub mod Blocking
+pub mod CallerLemmas
 pub mod Looking
-pub mod Resuming
 pub mod Stepping
 pub mod Walking
 pub mod WholeWalk

@@ -20,7 +20,7 @@ use Rattle.tree_port.specs.declared.faults.TreeFault.{TreeFault}
 use Rattle.tree_port.specs.declared.faults.TreeFault.TheVariants.{Failed, Denied, Memory}
 use Rattle.resume_apply.specs.Ready.{IsStep, changes_kind, is_ready_value, work_at, work_units}
 use Rattle.resume_apply.specs.Finishing.{CanChange, CanDo, Does, IsDone, IsMoved, IsPaid, counted_on}
-use Rattle.resume_apply.proofs.Resuming.{ready_at, work_step}
+use Rattle.resume_apply.proofs.CallerLemmas.{ready_at, work_step}
 
 -- ---- one value put
 

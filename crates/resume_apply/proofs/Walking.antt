@@ -18,7 +18,7 @@ use Rattle.apply_model.specs.Parents.{IsBelowDir}
 use Rattle.tree_port.specs.Conditions.{HasNoChild}
 use Rattle.resume_apply.specs.Ready.{IsOnItsWay, IsReady, changes_kind, is_ready_value, work, work_at, work_units}
 use Rattle.resume_apply.specs.Finishing.{CanDo, IsMoved}
-use Rattle.resume_apply.proofs.Resuming.{move_ready, work_moved}
+use Rattle.resume_apply.proofs.CallerLemmas.{move_ready, work_moved}
 
 -- ---- a set and what is left of it
 

@@ -37,7 +37,7 @@ whole_set s cs xs set k lent order all st = subst (StandsFor s) (ap (λ l. cs ++
 pub stops_in : (s : Sum) (cs xs set : List Change) (k : ℕ) (c : Change) (node : Node) → xs ≡ set → is_canonical set ≡ true → k < length xs → c ≡ get_or xs k c →
     StandsFor s (cs ++ take k xs) → (IsTaken ((cs ++ take k xs) ++ c ∷ []) → ⊥) → node ≡ c.node → StopsIn cs set node
 stops_in s cs xs set k c node lent order low is st broken at = record {
-  front = take k xs;
+  prefix = take k xs;
   last = c;
   back = drop (k + 1) xs;
   set_is = canonical_stays set order ∙ sym lent ∙ split_at xs k c low is;

@@ -113,22 +113,22 @@ flipped c d e = decide (is_or_not (same_change d c))
     decide (inr f) = f
     decide (inl f) = let g : same_change c d ≡ true = same_change_at c d (sym (same_change_is d c f)) in cc (e, g)
 
-filter_front : (c : Change) (cs rest : List Change) → is_in cs c ≡ false → filter (differs_from c) (cs ++ rest) ≡ cs ++ filter (differs_from c) rest
-filter_front c [] rest out = refl
-filter_front c (d ∷ cs) rest out =
+filter_prefix : (c : Change) (cs rest : List Change) → is_in cs c ≡ false → filter (differs_from c) (cs ++ rest) ≡ cs ++ filter (differs_from c) rest
+filter_prefix c [] rest out = refl
+filter_prefix c (d ∷ cs) rest out =
     let parts = neither (same_change c d) (is_in cs c) out in
-    ap (λ b. if not b then d ∷ filter (differs_from c) (cs ++ rest) else filter (differs_from c) (cs ++ rest)) (flipped c d parts.0) ∙ ap (λ l. d ∷ l) (filter_front c cs rest parts.1)
+    ap (λ b. if not b then d ∷ filter (differs_from c) (cs ++ rest) else filter (differs_from c) (cs ++ rest)) (flipped c d parts.0) ∙ ap (λ l. d ∷ l) (filter_prefix c cs rest parts.1)
   where
     neither : (a b : Bool) → (a || b) ≡ false → (a ≡ false) × (b ≡ false)
     neither a b e = grind arith
 
--- a list without repeats stays as it is in front
-front_stays : (cs ds : List Change) → all_differ cs ≡ true → (rest : List Change) × (without_repeats (cs ++ ds) ≡ cs ++ rest)
-front_stays [] ds differ = (without_repeats ds, refl)
-front_stays (c ∷ cs) ds differ =
+-- a list without repeats stays as it is where it stands first
+prefix_stays : (cs ds : List Change) → all_differ cs ≡ true → (rest : List Change) × (without_repeats (cs ++ ds) ≡ cs ++ rest)
+prefix_stays [] ds differ = (without_repeats ds, refl)
+prefix_stays (c ∷ cs) ds differ =
     let parts = both (not (is_in cs c)) (all_differ cs) differ in
-    let ih = front_stays cs ds parts.1 in
-    (filter (differs_from c) ih.0, ap (λ l. c ∷ filter (differs_from c) l) ih.1 ∙ ap (λ l. c ∷ l) (filter_front c cs ih.0 (not_true (is_in cs c) parts.0)))
+    let ih = prefix_stays cs ds parts.1 in
+    (filter (differs_from c) ih.0, ap (λ l. c ∷ filter (differs_from c) l) ih.1 ∙ ap (λ l. c ∷ l) (filter_prefix c cs ih.0 (not_true (is_in cs c) parts.0)))
 
 differ_from_one : (cs : List Change) → one_each cs ≡ true → all_differ cs ≡ true
 differ_from_one [] one = refl
@@ -143,7 +143,7 @@ differ_net log = differ_from_one (canonical (net log)) (one_each-canonical (net 
 
 -- without rules log 1 is
 pub first_log_first : (log : List Change) (logs : List (List Change)) → IsRankedFirst log (log ∷ logs) []
-first_log_first log logs = let front = front_stays (canonical (net log)) (in_turn (net_sets logs)) (differ_net log) in record { rest = front.0; is = front.1 }
+first_log_first log logs = let prefix = prefix_stays (canonical (net log)) (in_turn (net_sets logs)) (differ_net log) in record { rest = prefix.0; is = prefix.1 }
 
 -- the net set of the log of a number
 set_at : (logs : List (List Change)) (place : ℕ) → set_from (net_sets logs) place ≡ canonical (net (log_at logs place))
@@ -155,9 +155,9 @@ set_at (log ∷ logs) (suc place) = set_at logs place
 -- under rules that begin with `all`, the log of that rule is
 pub ruled_log_first : (logs : List (List Change)) (place : ℕ) (rules : List Rule) → IsRankedFirst (log_at logs place) logs (All (suc place) ∷ rules)
 ruled_log_first logs place rules =
-    let front = front_stays (canonical (net (log_at logs place))) (expansions (net_sets logs) rules ++ in_turn (net_sets logs)) (differ_net (log_at logs place)) in
+    let prefix = prefix_stays (canonical (net (log_at logs place))) (expansions (net_sets logs) rules ++ in_turn (net_sets logs)) (differ_net (log_at logs place)) in
     record {
-      rest = front.0;
+      rest = prefix.0;
       is = ap (λ l. without_repeats ((l ++ expansions (net_sets logs) rules) ++ in_turn (net_sets logs))) (set_at logs place)
-          ∙ ap without_repeats (append_assoc (canonical (net (log_at logs place))) (expansions (net_sets logs) rules) (in_turn (net_sets logs))) ∙ front.1;
+          ∙ ap without_repeats (append_assoc (canonical (net (log_at logs place))) (expansions (net_sets logs) rules) (in_turn (net_sets logs))) ∙ prefix.1;
     }

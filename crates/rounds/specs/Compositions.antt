@@ -29,13 +29,13 @@ composition sets = net (chain_list sets)
 -- some tree takes the commands before and the first part of the set, and none takes them with the set's next command,
 -- which is of the node
 pub record StopsIn (before set : List Change) (node : Node) : Type 0 where
-  pub front : List Change
+  pub prefix : List Change
   pub last : Change
   pub back : List Change
-  pub set_is : canonical set ≡ front ++ last ∷ back
+  pub set_is : canonical set ≡ prefix ++ last ∷ back
   pub node_is : node ≡ last.node
-  pub taken : IsTaken (before ++ front)
-  pub stops : IsTaken (before ++ front ++ last ∷ []) → ⊥
+  pub taken : IsTaken (before ++ prefix)
+  pub stops : IsTaken (before ++ prefix ++ last ∷ []) → ⊥
 
 -- where sets stop following one another: in the set of this number, counted from 1, with its command of the node, which
 -- is the last one of the shortest first part of the chain list that no tree takes

@@ -9,8 +9,6 @@ mod draws;
 mod logs;
 mod steps;
 mod summary;
-#[cfg(test)]
-mod tests;
 mod text;
 
 pub use self::summary::{Summary, summarize};

@@ -1,4 +1,3 @@
-pub mod Steps
 pub mod RoundLaws
 pub mod Trees
 pub mod Walks

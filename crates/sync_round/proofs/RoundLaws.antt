@@ -21,7 +21,7 @@ use Rattle.transition.specs.Transitions.{change_between, differences, transition
 use Rattle.transition.proofs.CallerLemmas.{law_of_each_tree, one_each-transition, transition_fits}
 use Rattle.resume_apply.specs.Ready.{changes_kind, IsReady, work_units, work_at, work}
 use Rattle.sync_round.specs.Rounds.{AreReady, targets, round_work, transitions, IsReadyRound, results, IsTreeStep, IsRoundStep}
-use Rattle.sync_round.proofs.Steps.{fits_ready, step_law}
+use Rattle.resume_apply.proofs.CallerLemmas.{fits_ready, step_law}
 
 -- ---- the results of the logs
 

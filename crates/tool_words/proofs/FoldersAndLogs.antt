@@ -46,9 +46,9 @@ numbered_take zero place words = refl
 numbered_take (suc n) place [] = refl
 numbered_take (suc n) place (word ∷ words) = ap (λ rest. record { text = word; place = place } ∷ rest) (numbered_take n (suc place) words)
 
-pub front_of : (first at : ℕ) (words : List (String Global))
+pub prefix_of : (first at : ℕ) (words : List (String Global))
     → drop first (numbered 0 (texts_of (take (first + at) words))) ≡ take at (drop first (numbered 0 (texts_of words)))
-front_of first at words =
+prefix_of first at words =
     ap (λ texts. drop first (numbered 0 texts)) (sym (take-map string_bytes (first + at) words))
     ∙ ap (drop first) (numbered_take (first + at) 0 (texts_of words))
     ∙ drop-take first at (numbered 0 (texts_of words))

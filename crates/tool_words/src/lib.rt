@@ -24,6 +24,3 @@ pub use self::job::{Job, Side, Word, WordFault};
 pub use self::operand_words::operand_text;
 pub use self::read::read_words;
 pub use self::trees::{first_tree_word, trees_wanted};
-
-#[cfg(test)]
-mod tests;

@@ -173,8 +173,8 @@ module _ (logs : List (List Change)) where
         let all = together_weigh f weights logs ns ms first second part other in omega arith)
 
 -- the net set of a log is drawn, by the log and by its number; past the last there is none
-at_front : (log : List Change) (logs : List (List Change)) → IsSubset (net log) (nets_in_turn (log ∷ logs))
-at_front log logs c e = is_in-append (canonical (net log)) (nets_in_turn logs) c ∙ ap (λ b. b || is_in (nets_in_turn logs) c) (is_in-canonical (net log) (one_each-net log) c ∙ e)
+at_prefix : (log : List Change) (logs : List (List Change)) → IsSubset (net log) (nets_in_turn (log ∷ logs))
+at_prefix log logs c e = is_in-append (canonical (net log)) (nets_in_turn logs) c ∙ ap (λ b. b || is_in (nets_in_turn logs) c) (is_in-canonical (net log) (one_each-net log) c ∙ e)
 
 further : (log : List Change) (logs : List (List Change)) (cs : List Change) → IsSubset cs (nets_in_turn logs) → IsSubset cs (nets_in_turn (log ∷ logs))
 further log logs cs part c e = is_in-append (canonical (net log)) (nets_in_turn logs) c ∙ later (is_in (canonical (net log)) c) (is_in (nets_in_turn logs) c) (part c e)
@@ -185,12 +185,12 @@ further log logs cs part c e = is_in-append (canonical (net log)) (nets_in_turn 
 
 in_turn_among : (log : List Change) (logs : List (List Change)) → IsAmong log logs → IsSubset (net log) (nets_in_turn logs)
 in_turn_among log [] among = absurd among
-in_turn_among log (first ∷ logs) (inl same) = subst (λ l. IsSubset (net l) (nets_in_turn (first ∷ logs))) (sym same) (at_front first logs)
+in_turn_among log (first ∷ logs) (inl same) = subst (λ l. IsSubset (net l) (nets_in_turn (first ∷ logs))) (sym same) (at_prefix first logs)
 in_turn_among log (first ∷ logs) (inr among) = further first logs (net log) (in_turn_among log logs among)
 
 in_turn_numbered : (logs : List (List Change)) (i : ℕ) → IsSubset (net (log_at logs i)) (nets_in_turn logs)
 in_turn_numbered [] i = λ c e. e
-in_turn_numbered (log ∷ logs) zero = at_front log logs
+in_turn_numbered (log ∷ logs) zero = at_prefix log logs
 in_turn_numbered (log ∷ logs) (suc i) = further log logs (net (log_at logs i)) (in_turn_numbered logs i)
 
 drawn_by : (logs : List (List Change)) (cs : List Change) → IsSubset cs (nets_in_turn logs) → IsSubset cs (drawn_commands logs)

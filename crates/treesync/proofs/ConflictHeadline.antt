@@ -93,5 +93,5 @@ module _ (words : List Text) (before now : Outside) (status : ℕ) (ran : Ran wo
         so = λ apart. some ((listed_law p.joint (all_commands p.logs) p.stands).1 apart);
       }
 
-  pub tells_clashes : TellsClashes words before now status
-  tells_clashes files m e known = (none_clash files m e known, some_clash files m e known)
+  pub says_clashes : TellsClashes words before now status
+  says_clashes files m e known = (none_clash files m e known, some_clash files m e known)

@@ -19,7 +19,7 @@ use Rattle.treesync.specs.declared.refusal.Refusal.{Refusal}
 use Rattle.treesync.specs.declared.refusal.Refusal.TheVariants.{OutOfMemory}
 use Rattle.treesync.proofs.ApplyHeadline.{keeps_unready, prints_applied, resumes_apply}
 use Rattle.treesync.proofs.Completing.{completes_job}
-use Rattle.treesync.proofs.ConflictHeadline.{tells_clashes}
+use Rattle.treesync.proofs.ConflictHeadline.{says_clashes}
 use Rattle.treesync.proofs.HeadlineLemmas.{prints_merger, prints_steered}
 use Rattle.treesync.proofs.Recordings.{unread}
 use Rattle.treesync.proofs.Syncing.{unread_round}
@@ -81,7 +81,7 @@ module _ (words : List Text) (before now : Outside) (status : ℕ) where
   runs_transition runs number prefs files m e = prints_transition words before now status (answered (Transition number prefs files) e tt runs) number prefs files m e
 
   pub runs_clashes : Runs words before now status → TellsClashes words before now status
-  runs_clashes runs files m e = tells_clashes words before now status (answered (Conflicts files) e tt runs) files m e
+  runs_clashes runs files m e = says_clashes words before now status (answered (Conflicts files) e tt runs) files m e
 
   pub runs_rules : Runs words before now status → PrintsRules words before now status
   runs_rules runs file files m e = prints_rules words before now status (answered (Steer file files) e tt runs) file files m e

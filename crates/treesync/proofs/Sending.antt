@@ -99,13 +99,13 @@ ends a b texts n h sent = subst (λ t. IfBoth a b (Sends {T = Unit {0}} t (Ok tt
 
 -- ---- a line that ends with a path
 
-pub line_sent : (a b c d : Option SinkContents) (front path end : List ℕ) (first second : Unit {0}) (result : Result (Unit {0}) SinkFailed) →
-    IfBoth a b (Sends {T = Unit {0}} front (Ok first)) → IfBoth b c (Sends {T = Unit {0}} path (Ok second)) → IfBoth c d (Sends end result) → IfBoth a d (Sends (front ++ (path ++ end)) result)
-line_sent a b c d front path end first second result h g k = sends_on a b d front (path ++ end) first result h (sends_on b c d path end second result g k)
+pub line_sent : (a b c d : Option SinkContents) (prefix path end : List ℕ) (first second : Unit {0}) (result : Result (Unit {0}) SinkFailed) →
+    IfBoth a b (Sends {T = Unit {0}} prefix (Ok first)) → IfBoth b c (Sends {T = Unit {0}} path (Ok second)) → IfBoth c d (Sends end result) → IfBoth a d (Sends (prefix ++ (path ++ end)) result)
+line_sent a b c d prefix path end first second result h g k = sends_on a b d prefix (path ++ end) first result h (sends_on b c d path end second result g k)
 
-pub path_stops : (a b c : Option SinkContents) (front path end : List ℕ) (first : Unit {0}) (failed : SinkFailed) →
-    IfBoth a b (Sends {T = Unit {0}} front (Ok first)) → IfBoth b c (Sends {T = Unit {0}} path (Err failed)) → IfBoth a c (Sends {T = Unit {0}} (front ++ (path ++ end)) (Err failed))
-path_stops a b c front path end first failed h g = sends_on a b c front (path ++ end) first (Err failed) h (sends_stop b c path end failed g)
+pub path_stops : (a b c : Option SinkContents) (prefix path end : List ℕ) (first : Unit {0}) (failed : SinkFailed) →
+    IfBoth a b (Sends {T = Unit {0}} prefix (Ok first)) → IfBoth b c (Sends {T = Unit {0}} path (Err failed)) → IfBoth a c (Sends {T = Unit {0}} (prefix ++ (path ++ end)) (Err failed))
+path_stops a b c prefix path end first failed h g = sends_on a b c prefix (path ++ end) first (Err failed) h (sends_stop b c path end failed g)
 
 -- ---- printing, and saying one line
 

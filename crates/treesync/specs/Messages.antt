@@ -84,7 +84,7 @@ numbered_line word number what = concat (codes "treesync: " ∷ word ∷ codes "
 
 -- a line that ends with a path
 abbrev pub line_at : List (List ℕ) → Node → List ℕ
-line_at front path = concat front ++ (path_text path ++ codes "\n")
+line_at prefix path = concat prefix ++ (path_text path ++ codes "\n")
 
 -- `treesync: logs FIRST and SECOND: no common tree at PATH`
 abbrev pub disagreement_line : ℕ → ℕ → Node → List ℕ

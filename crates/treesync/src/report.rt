@@ -191,12 +191,12 @@ fn say_of_line<E: Sink>(
 }
 
 /// Sends texts one after another, then a path, and then the end of the line.
-fn send_line_at<E: Sink>(err: &mut E, front: &[&[u8]], path: &Path) -> Result<(), SinkFailed>
+fn send_line_at<E: Sink>(err: &mut E, prefix: &[&[u8]], path: &Path) -> Result<(), SinkFailed>
     ensures faults { SinkFaults result (E.sink err.old) (E.sink err.new) }
     ensures contents { IfKnown (E.sink err.old) (E.sink err.new)
-        (Sends (line_at (map (λ text. text.now) front.now) path.now) result) }
+        (Sends (line_at (map (λ text. text.now) prefix.now) path.now) result) }
 {
-    send_all(err, front)?;
+    send_all(err, prefix)?;
     send_path(err, path)?;
     send(err, texts::LINE_END.as_bytes())
 }

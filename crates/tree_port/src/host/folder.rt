@@ -6,6 +6,7 @@
 ghost use Rattle.std.specs.Prelude.{◌≤◌, IfOk, option_copied, vec_len};
 ghost use Rattle.sync_command.specs.declared.labels.TheConstants.{MAX_LABEL_LEN};
 ghost use Rattle.tree_port.specs.Conditions.{AreBelow};
+ghost use Rattle.tree_port.specs.declared.host.listing.TheConstants.{MAX_LISTED};
 
 use super::contents::{fault_of, has_bytes, out_of_memory, read_bytes, unless_missing, write_new};
 use super::listing::list;
@@ -283,7 +284,8 @@ impl<R: std::rt::Files + Clone + Drop> Folder<R> {
         alloc: Global,
         path: Option<&Path>,
     ) -> Result<Vec<Path>, TreeFault>
-        ensures { IfOk result (λ found. AreBelow (option_copied path.entry) found.items) }
+        ensures below { IfOk result (λ found. AreBelow (option_copied path.entry) found.items) }
+        ensures few { IfOk result (λ found. vec_len found ≤ MAX_LISTED) }
     {
         let text = self.listed_text(path)?;
         let mut dir = self.rt.open_dir(&text).map_err(|error| fault_of(&error))?;
@@ -372,16 +374,21 @@ impl<R: std::rt::Files + Clone + Drop> Folder<R> {
         }
     }
 
-    /// Removes a folder that has nothing but names of the adapter: it is taken from its place in one step.
+    /// Removes a folder that has nothing but names of the adapter: it is taken from its place in one step. Once it is
+    /// away no memory is taken where its label is all that it has, so that want of memory leaves it in its place.
     fn remove_with_label(&mut self, path: &Path, text: &str) -> Result<(), TreeFault> {
         if !self.children(self.alloc, Some(path))?.is_empty() {
             return Err(TreeFault::Denied);
         }
         let old = self.text_of(OLD)?;
+        let label = joined(self.alloc, &old, LABEL)?;
         self.forget(path);
         fs::rename(&self.rt, text, old.as_str()).map_err(|error| fault_of(&error))?;
-        self.is_clear = false;
-        self.clear().map_err(|_| TreeFault::Failed)
+        if remove_labelled(&self.rt, &old, &label).is_err() {
+            self.is_clear = false;
+            return self.clear().map_err(|_| TreeFault::Failed);
+        }
+        Ok(())
     }
 }
 
@@ -422,6 +429,12 @@ fn first_names(alloc: Global, path: &Path, count: usize) -> Result<Option<Path>,
         first.pop();
     }
     Ok(Some(first))
+}
+
+/// Removes a folder that has its label and nothing else.
+fn remove_labelled<R: std::rt::Files>(rt: &R, folder: &str, label: &str) -> io::Result<()> {
+    fs::remove_file(rt, label)?;
+    fs::remove_dir(rt, folder)
 }
 
 /// Writes a file beside and renames it, in the place of a file or of nothing.

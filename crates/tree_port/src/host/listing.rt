@@ -1,9 +1,10 @@
 //! The names in a folder of the system, as paths.
 
-ghost use Rattle.std.specs.Prelude.{◌≡◌, ◌+◌, ◌<◌, ℕ, IfOk, IsTrue, true, length, option_copied};
+ghost use Rattle.std.specs.Prelude.{◌≡◌, ◌+◌, ◌<◌, ◌≤◌, ℕ, IfOk, IsTrue, true, length, option_copied, vec_len};
 ghost use Rattle.std.specs.List.{slice_index_or};
 ghost use Rattle.sync_path.specs.Paths.{Node, comes_before, parent};
 ghost use Rattle.tree_port.specs.Conditions.{AreBelow};
+ghost use Rattle.tree_port.specs.declared.host.listing.TheConstants.{MAX_LISTED};
 
 use super::contents::fault_of;
 use crate::TreeFault;
@@ -12,7 +13,7 @@ use std::io::Read;
 use sync_path::{Path, PathFault};
 
 /// How many names a folder may have.
-const MAX_LISTED: usize = 1 << 20;
+pub(super) const MAX_LISTED: usize = 1 << 20;
 
 /// How many bytes of names are read at a time.
 const PIECE: usize = 32768;
@@ -46,9 +47,6 @@ fn take_names(
 ) -> Result<(), TreeFault> {
     for name in piece.split(|byte| *byte == 0) {
         if is_of_tree(name) {
-            if found.len() >= MAX_LISTED {
-                return Err(TreeFault::Failed);
-            }
             found
                 .push(below(alloc, above, name)?)
                 .map_err(|_| TreeFault::Memory)?;
@@ -57,17 +55,22 @@ fn take_names(
     Ok(())
 }
 
-/// The paths of an open folder's names, below a node or as roots, in path order.
+/// The paths of an open folder's names, below a node or as roots, in path order. `Failed` where there are more than
+/// 1,048,576.
 pub(super) fn list<D: Read>(
     dir: &mut D,
     alloc: Global,
     above: Option<&Path>,
 ) -> Result<Vec<Path>, TreeFault>
-    ensures { IfOk result (λ found. AreBelow (option_copied above.entry) found.items) }
+    ensures below { IfOk result (λ found. AreBelow (option_copied above.entry) found.items) }
+    ensures few { IfOk result (λ found. vec_len found ≤ MAX_LISTED) }
 {
     let mut found = Vec::new(alloc);
     let mut piece = [0u8; PIECE];
     for _ in 0..=MAX_LISTED {
+        if found.len() > MAX_LISTED {
+            return Err(TreeFault::Failed);
+        }
         let count = match dir.read(&mut piece) {
             Ok(count) => count,
             Err(error) => return Err(fault_of(&error)),
@@ -82,7 +85,9 @@ pub(super) fn list<D: Read>(
 
 /// The paths in path order. `Failed` where one stands twice or is not below the node, which no folder gives.
 fn in_order(above: Option<&Path>, mut paths: Vec<Path>) -> Result<Vec<Path>, TreeFault>
-    ensures { IfOk result (λ found. AreBelow (option_copied above.entry) found.items) }
+    requires { vec_len paths ≤ MAX_LISTED }
+    ensures below { IfOk result (λ found. AreBelow (option_copied above.entry) found.items) }
+    ensures few { IfOk result (λ found. vec_len found ≤ MAX_LISTED) }
 {
     paths.sort_unstable_by(|first, second| first.cmp(second));
     if are_below(above, &paths) {

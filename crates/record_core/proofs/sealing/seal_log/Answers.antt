@@ -3,7 +3,7 @@ use Rattle.std.specs.Prelude.{option_copied}
 use Rattle.std.specs.List.{AllByRecursion}
 use Rattle.log_text.specs.Logs.{IsOfVersion}
 use Rattle.record_core.specs.Looks.{IsShownWithin}
-use Rattle.record_core.proofs.SealedLists.{all_done, front_passes, last_undone, one_out}
+use Rattle.record_core.proofs.SealedLists.{all_done, prefix_passes, last_undone, one_out}
 use Rattle.std.specs.Prelude.{Ok}
 use Rattle.record_core.proofs.sealing.seal_log.Goals as goal
 
@@ -17,7 +17,7 @@ returns-in-Ok-Undone-clause-answer g c log e b =
 
 pub returns-in-Ok-Undone-clause-printable : goal.returns-in-Ok-Undone-clause-printable
 returns-in-Ok-Undone-clause-printable g c version each =
-    let front = c.without_last.ensures.front in front_passes (IsOfVersion version) c.without_last.result.items front.0 (subst (AllByRecursion (IsOfVersion version)) front.1 each)
+    let prefix = c.without_last.ensures.prefix in prefix_passes (IsOfVersion version) c.without_last.result.items prefix.0 (subst (AllByRecursion (IsOfVersion version)) prefix.1 each)
 
 pub returns-in-Ok-Out-clause-answer : goal.returns-in-Ok-Out-clause-answer
 returns-in-Ok-Out-clause-answer g c log e b =

@@ -1,6 +1,6 @@
 use Rattle.std.proofs.Common.{◌∙◌, sym, ap, take, drop, length, arith, rules}
 use Rattle.tool_words.proofs.Numbered.{rest_length}
-use Rattle.tool_words.proofs.FoldersAndLogs.{front_of, back_of}
+use Rattle.tool_words.proofs.FoldersAndLogs.{prefix_of, back_of}
 use Rattle.tool_words.proofs.file_list.FileList.split_at.Goals as goal
 
 pub overflow_add-end : goal.overflow_add-end
@@ -22,6 +22,6 @@ pub returns : goal.returns
 returns c =
     let words = c.self.inside.words.now in
     let first = c.self.inside.first in (
-      c.new.ensures ∙ front_of first c.args.at words ∙ ap (take c.args.at) c.self.view_is,
+      c.new.ensures ∙ prefix_of first c.args.at words ∙ ap (take c.args.at) c.self.view_is,
       c.new-2.ensures ∙ back_of first c.args.at words ∙ ap (drop c.args.at) c.self.view_is,
     )

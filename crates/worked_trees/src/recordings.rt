@@ -3,15 +3,16 @@
 ghost use Rattle.std.specs.List.{AllByRecursion};
 ghost use Rattle.log_text.specs.Logs.{IsOfVersion};
 
-use crate::{SealFault, read_script, record, seal};
 use apply_model::{TreeMap, replay_owned};
 use log_text::print_log;
+use record_core::{SealFault, read_script, record, seal};
 use std::alloc::Global;
 use std::test::Fail;
 use sync_command::{Command, Value, Version};
 use sync_path::Path;
 use sync_port::MemSink;
 use tree_port::{FuseTree, MemTree, Shot, Tree};
+use worked_texts::lines::{path, value};
 
 /// A node and what it holds.
 type Held = (&'static str, &'static str);
@@ -134,14 +135,6 @@ const SEALED: &[Sealed] = &[
         answer: "broken at 2",
     },
 ];
-
-fn value(alloc: Global, text: &str) -> Result<Value, Fail> {
-    Ok(Value::read(alloc, Version::Two, text.as_bytes())?)
-}
-
-fn path(alloc: Global, text: &str) -> Result<Path, Fail> {
-    Ok(Path::read(alloc, text.as_bytes())?)
-}
 
 fn map_of(alloc: Global, rows: &[Held]) -> Result<TreeMap, Fail> {
     let mut map = TreeMap::new(alloc);

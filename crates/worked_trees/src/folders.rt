@@ -1,12 +1,12 @@
 //! A folder of the system, which the test makes, as a tree.
 
-use crate::lines::{path, value};
 use std::alloc::Global;
 use std::fs;
 use std::test::Fail;
 use sync_command::{Kind, Value};
 use sync_path::Path;
 use tree_port::{HostTree, Tree, TreeFault};
+use worked_texts::lines::{path, value};
 
 /// What is done at a node.
 #[derive(Drop)]

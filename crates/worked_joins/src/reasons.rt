@@ -1,6 +1,6 @@
 //! Reasons that hold, and those that differ from one of these in the log or in one place, which do not.
 
-use crate::lines::{Line, joined, path};
+use crate::logs::joined;
 use canon_set::CanonSet;
 use explain_core::{Places, Reason, shows};
 use merge_core::merge;
@@ -8,6 +8,7 @@ use pref_list::{Rule, rank};
 use refluent::Joint;
 use std::alloc::Global;
 use std::test::Fail;
+use worked_texts::lines::{Line, path};
 
 /// The log of a command that is left out, its node, and its chain.
 type Wanted = (u32, &'static str, &'static [&'static str]);

@@ -1,6 +1,5 @@
 //! Sets applied to trees in memory: in one go, and with a stop at each call in turn.
 
-use crate::lines::{Line, commands, path, value};
 use apply_model::TreeMap;
 use canon_set::{CanonSet, canon};
 use resume_apply::{ApplyFault, finish, prepare};
@@ -9,6 +8,7 @@ use std::test::Fail;
 use sync_command::{Command, Value};
 use sync_path::Path;
 use tree_port::{FuseTree, Shot, Tree, TreeFault};
+use worked_texts::lines::{Line, commands, path, value};
 
 /// A node and what it holds.
 type Held = (&'static str, &'static str);

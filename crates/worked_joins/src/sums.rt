@@ -1,11 +1,12 @@
 //! Sums of small logs, and their net sets.
 
-use crate::lines::{Line, commands, sum};
+use crate::logs::sum;
 use canon_set::{CanonFault, CanonSet, canon};
 use std::alloc::Global;
 use std::test::Fail;
 use sync_command::Kind;
 use sync_path::Path;
+use worked_texts::lines::{Line, commands};
 
 fn text(alloc: Global, set: &CanonSet) -> Result<Vec<u8>, Fail> {
     let mut out = Vec::new(alloc);

@@ -1,11 +1,12 @@
 //! Clashes, one by one and in order.
 
-use crate::lines::{Line, joined};
+use crate::logs::joined;
 use clash_list::{Clash, Clashes};
 use refluent::Joint;
 use std::alloc::Global;
 use std::test::Fail;
 use sync_path::Path;
+use worked_texts::lines::Line;
 
 /// A clash by the node's path, the child's, which is empty where two commands of the node clash, and the two logs.
 type Wanted = (&'static str, &'static str, u32, u32);

@@ -1,24 +1,25 @@
--- A step of one command leaves a tree ready, with the same target and less work; and a tree that a set fits is ready.
+-- What the crates above need of applying a set: a step of one command leaves a tree ready, with the same target and less
+-- work, and a tree that a set fits is ready for it.
 use Rattle.std.proofs.Common.{◌||◌, ◌≡◌, ℕ, ◌+◌, Bool, true, false, not, ◌&&◌, List, [], ◌∷◌, Option, Some, None, refl, sym, ap, subst, ◌∙◌, arith, ◌⊎◌, inl, inr}
 use mathlib.Core.Path.{fun_ext}
 use Rattle.std.specs.Prelude.{if◌then◌else◌, is_none}
-use Rattle.sync_path.specs.Paths.{Node, same_path}
 use Rattle.sync_path.proofs.CallerLemmas.{both, same_path_is, same_path_at, same_path_comm}
+use Rattle.sync_command.proofs.CallerLemmas.{list_all-at, same_tree, same_value_at, same_value_is}
+use Rattle.resume_apply.specs.Ready.{changes_kind, is_ready_value, IsReady, work_units, work_at, work, IsStep}
+use Rattle.sync_command.specs.Changes.{Change, is_change}
+use Rattle.canon_set.specs.Logs.{all_change}
+use Rattle.sync_command.specs.Trees.{Holding, put, command_at, after, one_each, Fits}
+use Rattle.sync_command.specs.Values.{is_empty, is_dir, same_value}
 use Rattle.sync_command.specs.declared.values.Value.{Value}
 use Rattle.sync_command.specs.declared.values.Value.TheVariants.{Empty, Dir, File}
-use Rattle.sync_command.specs.Values.{is_empty, is_dir, same_value}
-use Rattle.sync_command.specs.Changes.{Change, is_change}
-use Rattle.sync_command.specs.Trees.{Holding, put, command_at, after, one_each, Fits}
-use Rattle.sync_command.proofs.CallerLemmas.{list_all-at, same_tree, same_value_at, same_value_is}
-use Rattle.canon_set.specs.Logs.{all_change}
-use Rattle.resume_apply.specs.Ready.{changes_kind, is_ready_value, IsReady, work_units, work_at, work, IsStep}
+use Rattle.sync_path.specs.Paths.{Node, same_path}
 
 is_or_not : (b : Bool) → (b ≡ true) ⊎ (b ≡ false)
 is_or_not true = inl refl
 is_or_not false = inr refl
 
 -- a step leaves the node ready
-ready_at : (c : Change) (v w : Value) → IsStep c v w → is_ready_value c w ≡ true
+pub ready_at : (c : Change) (v w : Value) → IsStep c v w → is_ready_value c w ≡ true
 ready_at c v w (inl (old, new, s)) = go (same_value_at w c.new new)
   where
     go : same_value w c.new ≡ true → is_ready_value c w ≡ true
@@ -33,7 +34,7 @@ ready_at c v w (inr (inr (old, new, s))) = rw new (go s)
     go s = grind arith
 
 -- a step does one unit of work
-work_step : (c : Change) (v w : Value) → same_value c.old c.new ≡ false → same_value v w ≡ false → IsStep c v w → work_at c v ≡ work_at c w + 1
+pub work_step : (c : Change) (v w : Value) → same_value c.old c.new ≡ false → same_value v w ≡ false → IsStep c v w → work_at c v ≡ work_at c w + 1
 work_step c v w changes moves (inl (old, new, s)) =
     units_one _ _ (changes_kind c) _ _ (ap (λ x. same_value x c.new) old ∙ changes) s (same_value_at w c.new new)
   where
@@ -70,7 +71,7 @@ work_apart t p w (c ∷ cs) none = go (work_apart t p w cs) none
     go ih none = grind (arith, same_path_is, same_path_at)
 
 -- one step makes one unit of work less
-work_less : (t : Holding) (p : Node) (c : Change) (w : Value) (cs : List Change) → one_each cs ≡ true → command_at cs p ≡ Some c → work_at c (t p) ≡ work_at c w + 1 → work cs t ≡ work cs (put t p w) + 1
+pub work_less : (t : Holding) (p : Node) (c : Change) (w : Value) (cs : List Change) → one_each cs ≡ true → command_at cs p ≡ Some c → work_at c (t p) ≡ work_at c w + 1 → work cs t ≡ work cs (put t p w) + 1
 work_less t p c w [] one at less = cc
 work_less t p c w (d ∷ cs) one at less = go (is_or_not (same_path p d.node)) (λ h. work_less t p c w cs h)
   where
@@ -104,8 +105,46 @@ work_less t p c w (d ∷ cs) one at less = go (is_or_not (same_path p d.node)) (
         here = ap (λ q. work_at d (t q)) (sym is) ∙ subst (λ x. work_at x (t p) ≡ work_at x w + 1) (sym one_is) less ∙ ap (λ b. work_at d (if b then w else t d.node) + 1) (sym (same_path_at d.node p (sym is)))
     go (inr apart) ih = stays _ _ _ _ (ap (λ b. work_at d (if b then w else t d.node)) (sym (same_path_comm d.node p ∙ apart))) (ih rest_one.1 (sym (ap (λ b. if b then Some d else command_at cs p) apart) ∙ at) less)
 
+-- another value at one node changes the work by that node's
+pub work_moved : (t : Holding) (p : Node) (c : Change) (w : Value) (cs : List Change) → one_each cs ≡ true → command_at cs p ≡ Some c → work cs t + work_at c w ≡ work cs (put t p w) + work_at c (t p)
+work_moved t p c w [] one at = cc
+work_moved t p c w (d ∷ cs) one at = go (is_or_not (same_path p d.node)) (λ h. work_moved t p c w cs h)
+  where
+    rest_one : (is_none (command_at cs d.node) ≡ true) × (one_each cs ≡ true)
+    rest_one = both _ _ one
+
+    moved : (x y u v m n : ℕ) → x ≡ u → y ≡ v → m ≡ n → x + n + v ≡ y + m + u
+    moved x y u v m n e f k = omega arith
+
+    stays : (x y u v m n : ℕ) → x ≡ y → m + v ≡ n + u → x + m + v ≡ y + n + u
+    stays x y u v m n e f = omega arith
+
+    go : (same_path p d.node ≡ true) ⊎ (same_path p d.node ≡ false) → (one_each cs ≡ true → command_at cs p ≡ Some c → work cs t + work_at c w ≡ work cs (put t p w) + work_at c (t p)) →
+        work (d ∷ cs) t + work_at c w ≡ work (d ∷ cs) (put t p w) + work_at c (t p)
+    go (inl same) ih = moved _ _ _ _ _ _ here there (work_apart t p w cs (none_is _ (ap (λ q. is_none (command_at cs q)) is ∙ rest_one.0)))
+      where
+        is : p ≡ d.node
+        is = same_path_is p d.node same
+
+        one_is : d ≡ c
+        one_is = some_is (sym (ap (λ b. if b then Some d else command_at cs p) same) ∙ at)
+          where
+            some_is : Some d ≡ Some c → d ≡ c
+            some_is e = cc
+
+        none_is : (o : Option Change) → is_none o ≡ true → o ≡ None
+        none_is None e = refl
+        none_is (Some x) e = cc
+
+        here : work_at d (t d.node) ≡ work_at c (t p)
+        here = subst (λ x. work_at x (t d.node) ≡ work_at c (t p)) (sym one_is) (ap (λ q. work_at c (t q)) (sym is))
+
+        there : work_at d (put t p w d.node) ≡ work_at c w
+        there = ap (λ b. work_at d (if b then w else t d.node)) (same_path_at d.node p (sym is)) ∙ subst (λ x. work_at x w ≡ work_at c w) (sym one_is) refl
+    go (inr apart) ih = stays _ _ _ _ _ _ (ap (λ b. work_at d (if b then w else t d.node)) (sym (same_path_comm d.node p ∙ apart))) (ih rest_one.1 (sym (ap (λ b. if b then Some d else command_at cs p) apart) ∙ at))
+
 -- A value at which one command of a set is ready, put at its node, leaves a tree that was ready ready, with the same target.
-move_ready : (t : Holding) (cs : List Change) (p : Node) (c : Change) (w : Value) → IsReady t cs → command_at cs p ≡ Some c → is_ready_value c w ≡ true →
+pub move_ready : (t : Holding) (cs : List Change) (p : Node) (c : Change) (w : Value) → IsReady t cs → command_at cs p ≡ Some c → is_ready_value c w ≡ true →
     IsReady (put t p w) cs × ((q : Node) → after cs (put t p w) q ≡ after cs t q)
 move_ready t cs p c w ready at is_ready = (record { values = λ q d e. values q d (ready.values q d) is_ready e; tree = same_tree _ _ (λ q. sym (same q)) ready.tree }, same)
   where
@@ -126,7 +165,7 @@ move_ready t cs p c w ready at is_ready = (record { values = λ q d e. values q 
     same q = grind (arith, same_path_is, at)
 
 -- A step of one command of a set leaves a tree that was ready ready, with the same target.
-step_ready : (t : Holding) (cs : List Change) (p : Node) (c : Change) (w : Value) → IsReady t cs → command_at cs p ≡ Some c → IsStep c (t p) w →
+pub step_ready : (t : Holding) (cs : List Change) (p : Node) (c : Change) (w : Value) → IsReady t cs → command_at cs p ≡ Some c → IsStep c (t p) w →
     IsReady (put t p w) cs × ((q : Node) → after cs (put t p w) q ≡ after cs t q)
 step_ready t cs p c w ready at step = move_ready t cs p c w ready at (ready_at c (t p) w step)
 
@@ -137,12 +176,11 @@ fits_ready t cs fits = record { values = λ p c e. first _ _ (same_value_at (t p
     first : (a b : Bool) → a ≡ true → (a || b) ≡ true
     first a b e = grind arith
 
--- ---- the law of one step
-
 not_true : (b : Bool) → not b ≡ true → b ≡ false
 not_true true e = cc
 not_true false e = refl
 
+-- The law of one step: the tree is ready still, with the same target, and one unit of work less is left.
 pub step_law : (x y : Holding) (cs : List Change) → one_each cs ≡ true → all_change cs ≡ true → IsReady x cs → (p : Node) (c : Change) → command_at cs p ≡ Some c →
     ((q : Node) → same_path q p ≡ false → y q ≡ x q) → (x p ≡ y p → ⊥) → IsStep c (x p) (y p) →
     IsReady y cs × (after cs y ≡ after cs x) × (work cs x ≡ work cs y + 1)

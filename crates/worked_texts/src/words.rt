@@ -1,10 +1,10 @@
 //! Words of the commands that are built.
 
-use crate::{
+use std::alloc::{AllocError, Global};
+use tool_words::{
     FileList, Job, Side, Word, WordFault, first_tree_word, help, operand_text, read_words,
     trees_wanted,
 };
-use std::alloc::{AllocError, Global};
 
 /// The words of a line, with a blank between two of them.
 fn words_of(alloc: Global, line: &str) -> Result<Vec<String>, AllocError> {

@@ -1,10 +1,11 @@
 //! Joints of small logs, and logs that disagree.
 
-use crate::lines::{Line, sum, sums};
+use crate::logs::{sum, sums};
 use canon_set::LogSum;
 use refluent::{JoinFault, Joint, MAX_LOGS, join};
 use std::alloc::Global;
 use std::test::Fail;
+use worked_texts::lines::Line;
 
 /// The nodes of a joint, each with its first value, its parent's place and its net commands as `LOG.PLACE`, and the
 /// number of drawn commands.

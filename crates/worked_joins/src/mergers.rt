@@ -1,6 +1,6 @@
 //! First mergers under rules, and sets that are steered to.
 
-use crate::lines::{Line, commands, joined};
+use crate::logs::joined;
 use canon_set::canon;
 use merge_core::{SteerFault, merge, steer};
 use pref_list::{Rule, rank};
@@ -9,6 +9,7 @@ use std::alloc::Global;
 use std::test::Fail;
 use sync_command::{Value, Version};
 use sync_path::Path;
+use worked_texts::lines::{Line, commands};
 
 /// Logs, `at` rules, and the merger, each command by its path and new value.
 struct Case {

@@ -1,7 +1,7 @@
 //! Drills whose numbers are known.
 
-use crate::drill;
 use std::alloc::AllocError;
+use sync_drill::drill;
 
 const CASES: [(u32, u32, u32, &str); 4] = [
     (

@@ -1,7 +1,5 @@
-//! The lines of logs that cases are written with, and what is made of them.
+//! The lines of logs that cases are written with, and the commands that they are.
 
-use canon_set::LogSum;
-use refluent::{Joint, MAX_LOGS, join};
 use std::alloc::Global;
 use std::test::Fail;
 use sync_command::{Command, Value, Version};
@@ -36,31 +34,4 @@ pub fn commands(alloc: Global, lines: &[Line]) -> Result<Vec<Command>, Fail> {
         commands.push(command(alloc, line)?)?;
     }
     Ok(commands)
-}
-
-/// The sum of a log.
-pub fn sum(alloc: Global, lines: &[Line]) -> Result<LogSum, Fail> {
-    let mut sum = LogSum::new(alloc);
-    for line in lines {
-        sum.add(command(alloc, line)?)?;
-    }
-    Ok(sum)
-}
-
-/// The sums of logs.
-pub fn sums(alloc: Global, logs: &[&[Line]]) -> Result<Vec<LogSum>, Fail> {
-    let mut sums = Vec::new(alloc);
-    for lines in logs {
-        sums.push(sum(alloc, lines)?)?;
-    }
-    Ok(sums)
-}
-
-/// The joint of logs that some tree takes together.
-pub fn joined(alloc: Global, logs: &[&[Line]]) -> Result<Joint, Fail> {
-    let sums = sums(alloc, logs)?;
-    if sums.len() > MAX_LOGS {
-        return Err("too many logs".into());
-    }
-    Ok(join(alloc, sums)?)
 }

@@ -1,12 +1,12 @@
 //! Trees as maps: commands that are done or refused, replays, and live trees read whole.
 
-use crate::lines::{Line, command, path, value};
 use apply_model::{Break, RunBreak, TreeMap, replay, replay_owned};
 use std::alloc::Global;
 use std::test::Fail;
 use sync_command::{Command, Row, Value};
 use sync_path::Path;
 use tree_port::{FuseTree, MemTree, Shot, Tree, TreeFault, dump};
+use worked_texts::lines::{Line, command, path, value};
 
 /// Whether the command was done.
 fn was_done(tree: &mut TreeMap, command: &Command) -> Result<bool, Fail> {
