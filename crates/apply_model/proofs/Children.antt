@@ -12,12 +12,12 @@ use Rattle.std.proofs.lemmas.Map.Keys.{IsDistinct-IsPermutation}
 use Rattle.std.proofs.lemmas.Map.Made.{AllPairs-from_IsDistinct}
 use Rattle.sync_path.specs.Order.{path_cmp_total, path_eq, path_eq_equiv}
 use Rattle.sync_path.specs.Paths.{Node, comes_before, parent, path_cmp, same_path}
-use Rattle.sync_path.proofs.CallerLemmas.{before_total, same_path_at, same_path_decides, same_path_is}
+use Rattle.sync_path.proofs.CallerLemmas.{before_total, same_path_at, same_path_decides, same_path_is, child_at, child_is}
 use Rattle.sync_command.specs.Maps.{Store, at}
 use Rattle.sync_command.specs.Values.{is_empty}
 use Rattle.apply_model.specs.Children.{AreBelow, AreChildren}
-use Rattle.apply_model.specs.Tables.{full_children, has, is_below, is_child, is_full_child, map_of, value_in}
-use Rattle.apply_model.proofs.Counting.{child_at, child_is}
+use Rattle.apply_model.specs.Tables.{full_children, is_below, is_full_child, map_of, value_in}
+use Rattle.sync_path.specs.Children.{has, is_child}
 use Rattle.apply_model.proofs.Tables.{Entries, at-map_of}
 
 -- ---- what has a parent

@@ -6,7 +6,7 @@ use Rattle.std.specs.List.{AllByRecursion, IsDistinct}
 use Rattle.std.specs.Map.{keys_of, lookup}
 use Rattle.sync_path.specs.Order.{path_eq}
 use Rattle.sync_path.specs.Paths.{Node, parent}
-use Rattle.sync_path.proofs.CallerLemmas.{parent_none, same_path_at, same_path_is}
+use Rattle.sync_path.proofs.CallerLemmas.{parent_none, same_path_at, same_path_is, child_at, child_is, count_none, count_some}
 use Rattle.sync_command.proofs.CallerLemmas.{empty_is}
 use Rattle.sync_command.specs.Changes.{Change}
 use Rattle.sync_command.specs.Maps.{IsTreeMap, Store, at}
@@ -16,8 +16,8 @@ use Rattle.sync_command.specs.declared.values.Value.{Value}
 use Rattle.sync_command.specs.declared.values.Value.TheVariants.{Dir, Empty, File}
 use Rattle.apply_model.specs.declared.table.Entry.{Entry}
 use Rattle.apply_model.specs.Parents.{HoldsChild, IsBelowDir, IsReady}
-use Rattle.apply_model.specs.Tables.{IsKept, any_dir_above, children_in, is_child, is_full, map_of, value_in}
-use Rattle.apply_model.proofs.Counting.{child_at, child_is, count_none, count_some}
+use Rattle.apply_model.specs.Tables.{IsKept, any_dir_above, children_in, is_full, map_of, value_in}
+use Rattle.sync_path.specs.Children.{is_child}
 use Rattle.apply_model.proofs.Steps.{not_both, same_some}
 use Rattle.apply_model.proofs.Tables.{Entries, at-map_of, full-map_of, get_held, held_value, path_eq-flip}
 

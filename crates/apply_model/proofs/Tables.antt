@@ -11,14 +11,14 @@ use Rattle.sync_command.specs.Trees.{IsTree, put}
 use Rattle.sync_command.specs.Values.{is_dir, is_empty}
 use Rattle.sync_command.specs.declared.values.Value.{Value}
 use Rattle.sync_command.specs.declared.values.Value.TheVariants.{Dir, Empty, File}
-use Rattle.sync_path.proofs.CallerLemmas.{parent_apart, same_path_is, same_path_refl}
+use Rattle.sync_path.proofs.CallerLemmas.{parent_apart, same_path_comm, same_path_is, same_path_refl, child_at, child_is, count_empty, count_less, count_more, count_same, count_some}
 use Rattle.sync_command.proofs.CallerLemmas.{at-store, empty_is, empty_tree, full_from_dir, full_store, kept_put, put_apart, put_here}
 use Rattle.apply_model.specs.declared.table.Entry.{Entry}
 use Rattle.apply_model.specs.declared.table.Step.{Step}
 use Rattle.apply_model.specs.declared.table.Step.TheVariants.{Make, Remove, Replace}
 use Rattle.apply_model.specs.Steps.{IsStep, after_step}
-use Rattle.apply_model.specs.Tables.{IsChildCount, IsKept, Table, children_in, entry_with, is_child, is_full, is_parent, map_of, recounted, revalued, value_in, with_child}
-use Rattle.apply_model.proofs.Counting.{child_at, child_is, count_empty, count_less, count_more, count_same, count_some}
+use Rattle.apply_model.specs.Tables.{IsKept, Table, children_in, entry_with, is_full, map_of, recounted, revalued, value_in, with_child}
+use Rattle.sync_path.specs.Children.{IsChildCount, is_child, is_parent}
 use Rattle.apply_model.proofs.Steps.{below_from_put, not_both}
 
 abbrev pub Entries : Type 0
@@ -102,7 +102,8 @@ unwritten old new a gone same f e p = same p ∙ go (same_path p a) (same_path_i
 
 -- a write at the parent of the node, or none where it is a root, counts the node there
 pub child_written : (more : Bool) (old new : Table) (n q : Node) → parent n ≡ Some q → ((p : Node) → new p ≡ (if same_path p q then recounted more (old p) else old p)) → (p : Node) → new p ≡ with_child more n old p
-child_written more old new n q up written_at p = written_at p ∙ ap (λ o. if is_parent o p then recounted more (old p) else old p) (sym up)
+child_written more old new n q up written_at p = written_at p ∙ ap (λ b. if b then recounted more (old p) else old p) (same_path_comm p q)
+    ∙ ap (λ o. if is_parent o p then recounted more (old p) else old p) (sym up)
 
 pub root_written : (more : Bool) (old new : Table) (n : Node) → parent n ≡ None → ((p : Node) → new p ≡ old p) → (p : Node) → new p ≡ with_child more n old p
 root_written more old new n up same p = same p ∙ ap (λ o. if is_parent o p then recounted more (old p) else old p) (sym up)

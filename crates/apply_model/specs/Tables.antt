@@ -1,7 +1,8 @@
 -- A tree kept in a table: what the entries of its nodes say.
-use Rattle.std.specs.Prelude.{◌≡◌, ℕ, ◌+◌, ◌-◌, Bool, true, false, not, ◌&&◌, ◌||◌, List, [], ◌∷◌, length, Option, None, Some, if◌then◌else◌, is_none}
+use Rattle.std.specs.Prelude.{◌≡◌, ℕ, ◌+◌, ◌-◌, Bool, false, not, ◌&&◌, ◌||◌, List, [], ◌∷◌, Option, None, Some, if◌then◌else◌, is_none}
 use Rattle.std.specs.FinMap as map
-use Rattle.sync_path.specs.Paths.{Node, parent, same_path}
+use Rattle.sync_path.specs.Paths.{Node, parent}
+use Rattle.sync_path.specs.Children.{is_child, IsChildCount}
 use Rattle.sync_command.specs.Maps.{IsTreeMap, Store, at, store}
 use Rattle.sync_command.specs.Values.{is_dir, is_empty}
 use Rattle.sync_command.specs.declared.values.Value.{Value}
@@ -31,31 +32,6 @@ abbrev pub is_full : Store → Node → Bool
 is_full m p = not (is_empty (at m p))
 
 -- ---- counts of children
-
-abbrev pub is_parent : Option Node → Node → Bool
-is_parent None q = false
-is_parent (Some r) q = same_path q r
-
--- p is a child of q
-abbrev pub is_child : Node → Node → Bool
-is_child p q = is_parent (parent p) q
-
--- a list of paths has this one
-abbrev pub has : List Node → Node → Bool
-has [] p = false
-has (k ∷ ks) p = same_path p k || has ks p
-
--- each path is in the list once
-abbrev pub is_once : List Node → Bool
-is_once [] = true
-is_once (k ∷ ks) = not (has ks k) && is_once ks
-
--- so many children of q are full
-pub record IsChildCount (full : Node → Bool) (q : Node) (count : ℕ) : Type 0 where
-  pub children : List Node
-  pub each : (p : Node) → has children p ≡ (is_child p q && full p)
-  pub once : is_once children ≡ true
-  pub is : count ≡ length children
 
 -- the map is a tree, and each entry counts the children that are full
 pub record IsKept (m : Store) (entry : Table) : Type 0 where

@@ -5,9 +5,9 @@ use mir.Val.{bool_byte}
 use Rattle.std.specs.Ordering.{is_eq}
 use Rattle.sync_path.specs.Paths.{Node, path_cmp, same_path, is_under, parent}
 use Rattle.canon_set.specs.declared.table.Entry.{Entry}
-use Rattle.canon_set.specs.Entries.{place_in, children_in, IsClosed, IsTally, IsCounted, is_on_way, filled, Raises, Enters, Recounts, at_place}
-use Rattle.sync_path.proofs.CallerLemmas.{HasParentUnder, closed_up, same_path_at, same_path_comm, same_path_is, same_path_refl, under_down, under_parent, under_shorter, under_split}
-use Rattle.canon_set.proofs.Counting.{tally_same, tally_more, tally_less, tally_empty}
+use Rattle.canon_set.specs.Entries.{place_in, children_in, IsClosed, IsCounted, is_on_way, filled, Raises, Enters, Recounts, at_place}
+use Rattle.sync_path.specs.Children.{IsChildCount}
+use Rattle.sync_path.proofs.CallerLemmas.{HasParentUnder, closed_up, same_path_at, same_path_comm, same_path_is, same_path_refl, under_down, under_parent, under_shorter, under_split, count_same, count_more, count_less, count_empty}
 
 some_node : {a b : Node} → Some a ≡ Some b → a ≡ b
 some_node e = cc
@@ -110,8 +110,8 @@ off : (b : Bool) → b ≡ (b || false)
 off true = refl
 off false = refl
 
-root_tally : (old : Node → Option Entry) (path : Node) (here : Bool) → parent path ≡ None → (full : Node → Bool) → IsCounted full old → (q : Node) → IsTally (filled full old path here) q (children_in (old q))
-root_tally old path here root full c q = tally_same full (filled full old path here) q (children_in (old q)) (c.tally q) (λ p e. away p (same_path p path) (root_child path q p root e))
+root_tally : (old : Node → Option Entry) (path : Node) (here : Bool) → parent path ≡ None → (full : Node → Bool) → IsCounted full old → (q : Node) → IsChildCount (filled full old path here) q (children_in (old q))
+root_tally old path here root full c q = count_same full (filled full old path here) q (children_in (old q)) (c.tally q) (λ p e. away p (same_path p path) (root_child path q p root e))
   where
     away : (p : Node) (b : Bool) → b ≡ false → full p ≡ (if b then here else (full p || (is_none (old p) && is_under path p)))
     away p true e = cc (e)
@@ -122,7 +122,7 @@ raise_root old mid path here root same = record {
   places = λ p. ap place_in (same p);
   known = λ p. ap is_some (same p) ∙ off (is_some (old p)) ∙ ap (λ b. is_some (old p) || b) (sym (root_under path p root));
   few = λ p. low (children_in (mid p)) (children_in (old p)) (ap children_in (same p));
-  counts = λ full c q apart. subst (λ o. IsTally (filled full old path here) q (children_in o)) (sym (same q)) (root_tally old path here root full c q);
+  counts = λ full c q apart. subst (λ o. IsChildCount (filled full old path here) q (children_in o)) (sym (same q)) (root_tally old path here root full c q);
 }
   where
     low : (m n : ℕ) → m ≡ n → m ≤ n + 1
@@ -165,9 +165,9 @@ module _ (old mid : Node → Option Entry) (path q : Node) (here : Bool) (up : p
       at_path : (full : Node → Bool) → filled full old path here path ≡ here
       at_path full = ap (λ b. if b then here else (full path || (is_none (old path) && is_under path path))) (same_path_refl path)
 
-      at_q : (full : Node → Bool) → IsCounted full old → (b : Bool) → here ≡ b → IsTally (filled full old path here) q (children_in (old q) + bool_byte b)
-      at_q full c true e = tally_more full (filled full old path here) q path (children_in (old q)) (c.tally q) up (unknown_empty full old c path unknown) (at_path full ∙ e) (same_but full)
-      at_q full c false e = subst (λ n. IsTally (filled full old path here) q n) plus (tally_same full (filled full old path here) q (children_in (old q)) (c.tally q) (λ p f. each p (same_path p path) refl (same_path_is p path)))
+      at_q : (full : Node → Bool) → IsCounted full old → (b : Bool) → here ≡ b → IsChildCount (filled full old path here) q (children_in (old q) + bool_byte b)
+      at_q full c true e = count_more full (filled full old path here) q path (children_in (old q)) (c.tally q) up (unknown_empty full old c path unknown) (at_path full ∙ e) (same_but full)
+      at_q full c false e = subst (λ n. IsChildCount (filled full old path here) q n) plus (count_same full (filled full old path here) q (children_in (old q)) (c.tally q) (λ p f. each p (same_path p path) refl (same_path_is p path)))
         where
           plus : children_in (old q) ≡ children_in (old q) + 0
           plus = omega arith
@@ -176,12 +176,12 @@ module _ (old mid : Node → Option Entry) (path q : Node) (here : Bool) (up : p
           each p true s is = ap full (is refl) ∙ unknown_empty full old c path unknown ∙ sym e ∙ sym (at_path full) ∙ ap (filled full old path here) (sym (is refl))
           each p false s is = same_but full p s
 
-      count : (full : Node → Bool) → IsCounted full old → (r : Node) (b : Bool) → (b ≡ true → r ≡ q) → (same_path r q ≡ b → same_path r q ≡ b) → IsTally (filled full old path here) r (children_in (mid r))
+      count : (full : Node → Bool) → IsCounted full old → (r : Node) (b : Bool) → (b ≡ true → r ≡ q) → (same_path r q ≡ b → same_path r q ≡ b) → IsChildCount (filled full old path here) r (children_in (mid r))
       count full c r b is e = go (same_path r q) refl (same_path_is r q)
         where
-          go : (b : Bool) → same_path r q ≡ b → (b ≡ true → r ≡ q) → IsTally (filled full old path here) r (children_in (mid r))
-          go true s is = subst (λ x. IsTally (filled full old path here) x (children_in (mid x))) (sym (is refl)) (subst (λ n. IsTally (filled full old path here) q n) (sym own) (at_q full c here refl))
-          go false s is = subst (λ n. IsTally (filled full old path here) r n) (sym (others r s)) (tally_same full (filled full old path here) r (children_in (old r)) (c.tally r) (λ p f. same_but full p (other_child path q r p up s f)))
+          go : (b : Bool) → same_path r q ≡ b → (b ≡ true → r ≡ q) → IsChildCount (filled full old path here) r (children_in (mid r))
+          go true s is = subst (λ x. IsChildCount (filled full old path here) x (children_in (mid x))) (sym (is refl)) (subst (λ n. IsChildCount (filled full old path here) q n) (sym own) (at_q full c here refl))
+          go false s is = subst (λ n. IsChildCount (filled full old path here) r n) (sym (others r s)) (count_same full (filled full old path here) r (children_in (old r)) (c.tally r) (λ p f. same_but full p (other_child path q r p up s f)))
 
   -- the same, by a write to the parent's entry
   pub raise_write : IsClosed old → (s v : Entry) → Some s ≡ old q → ((p : Node) → mid p ≡ cond (is_eq (path_cmp q p)) (Some v) (old p)) → v.place ≡ s.place → v.children ≡ s.children + bool_byte here → Raises old mid path here
@@ -232,13 +232,13 @@ module _ (old mid : Node → Option Entry) (path q : Node) (here : Bool) (up : p
           go : (b : Bool) → b ≡ false → (x : Bool) → x ≡ false → (u : Bool) → u ≡ false → false ≡ (if b then here else (x || (is_none (old p) && u)))
           go b e x f u g = grind arith
 
-      at_q : (full : Node → Bool) → IsCounted full old → (b : Bool) → here ≡ b → IsTally (filled full old path here) q (bool_byte b)
-      at_q full c false e = tally_empty (filled full old path here) q (λ p f. each p f (same_path p path) refl (same_path_is p path))
+      at_q : (full : Node → Bool) → IsCounted full old → (b : Bool) → here ≡ b → IsChildCount (filled full old path here) q (bool_byte b)
+      at_q full c false e = count_empty (filled full old path here) q (λ p f. each p f (same_path p path) refl (same_path_is p path))
         where
           each : (p : Node) → parent p ≡ Some q → (b : Bool) → same_path p path ≡ b → (b ≡ true → p ≡ path) → filled full old path here p ≡ false
           each p f true s is = ap (filled full old path here) (is refl) ∙ at_path full ∙ e
           each p f false s is = sym (beside full c p f s)
-      at_q full c true e = tally_more (λ p. filled full old path here p && not (same_path p path)) (filled full old path here) q path 0 (tally_empty _ q (λ p f. empty p f (same_path p path) refl)) up own (at_path full ∙ e) (λ p s. other (filled full old path here p) (same_path p path) s)
+      at_q full c true e = count_more (λ p. filled full old path here p && not (same_path p path)) (filled full old path here) q path 0 (count_empty _ q (λ p f. empty p f (same_path p path) refl)) up own (at_path full ∙ e) (λ p s. other (filled full old path here p) (same_path p path) s)
         where
           empty : (p : Node) → parent p ≡ Some q → (b : Bool) → same_path p path ≡ b → (filled full old path here p && not (same_path p path)) ≡ false
           empty p f true s = ap (λ b. filled full old path here p && not b) s ∙ none_of (filled full old path here p)
@@ -256,12 +256,12 @@ module _ (old mid : Node → Option Entry) (path q : Node) (here : Bool) (up : p
           other : (x b : Bool) → b ≡ false → (x && not b) ≡ x
           other x b e = grind arith
 
-      count : (full : Node → Bool) → IsCounted full old → (r : Node) (b : Bool) → (b ≡ true → r ≡ q) → (same_path r q ≡ false → IsTally (filled full old q true) r (children_in (mid r))) → IsTally (filled full old path here) r (children_in (mid r))
+      count : (full : Node → Bool) → IsCounted full old → (r : Node) (b : Bool) → (b ≡ true → r ≡ q) → (same_path r q ≡ false → IsChildCount (filled full old q true) r (children_in (mid r))) → IsChildCount (filled full old path here) r (children_in (mid r))
       count full c r b is rest = go (same_path r q) refl (same_path_is r q)
         where
-          go : (b : Bool) → same_path r q ≡ b → (b ≡ true → r ≡ q) → IsTally (filled full old path here) r (children_in (mid r))
-          go true s is = subst (λ x. IsTally (filled full old path here) x (children_in (mid x))) (sym (is refl)) (subst (λ n. IsTally (filled full old path here) q n) (sym (ap children_in w.at ∙ kids)) (at_q full c here refl))
-          go false s is = tally_same (filled full old q true) (filled full old path here) r (children_in (mid r)) (rest s) (λ p f. each p (same_path p path) (other_child path q r p up s f) (same_path p q) (same_path_is p q) (is_under path p) (under_way path q p up))
+          go : (b : Bool) → same_path r q ≡ b → (b ≡ true → r ≡ q) → IsChildCount (filled full old path here) r (children_in (mid r))
+          go true s is = subst (λ x. IsChildCount (filled full old path here) x (children_in (mid x))) (sym (is refl)) (subst (λ n. IsChildCount (filled full old path here) q n) (sym (ap children_in w.at ∙ kids)) (at_q full c here refl))
+          go false s is = count_same (filled full old q true) (filled full old path here) r (children_in (mid r)) (rest s) (λ p f. each p (same_path p path) (other_child path q r p up s f) (same_path p q) (same_path_is p q) (is_under path p) (under_way path q p up))
             where
               each : (p : Node) (a : Bool) → a ≡ false → (b : Bool) → (b ≡ true → p ≡ q) → (u : Bool) → u ≡ (b || is_under q p) → (if b then true else (full p || (is_none (old p) && is_under q p))) ≡ (if a then here else (full p || (is_none (old p) && u)))
               each p true e b is u f = cc (e)
@@ -278,7 +278,7 @@ enter_made old mid new path entry here w put = record {
   places = λ p apart. ap place_in (other p apart) ∙ w.places p;
   known = λ p. known p (same_path p path) refl (w.known p);
   few = λ p apart. subst (λ o. children_in o ≤ children_in (old p) + 1) (sym (other p apart)) (w.few p);
-  counts = λ full c q apart. subst (λ o. IsTally (filled full old path here) q (children_in o)) (sym (other q apart)) (w.counts full c q apart);
+  counts = λ full c q apart. subst (λ o. IsChildCount (filled full old path here) q (children_in o)) (sym (other q apart)) (w.counts full c q apart);
 }
   where
     other : (p : Node) → same_path p path ≡ false → new p ≡ mid p
@@ -302,7 +302,7 @@ recount_same old new path was here level known same = record {
   places = λ p. ap place_in (same p);
   known = λ p. ap is_some (same p);
   few = λ p. same_low (children_in (new p)) (children_in (old p)) (ap children_in (same p));
-  counts = λ full c held q. subst (λ o. IsTally (filled full old path here) q (children_in o)) (sym (same q)) (tally_same full (filled full old path here) q (children_in (old q)) (c.tally q) (λ p e. each full c held p (same_path p path) (same_path_is p path) (old p) refl (is_under path p) (known_above old c.closed path p known)));
+  counts = λ full c held q. subst (λ o. IsChildCount (filled full old path here) q (children_in o)) (sym (same q)) (count_same full (filled full old path here) q (children_in (old q)) (c.tally q) (λ p e. each full c held p (same_path p path) (same_path_is p path) (old p) refl (is_under path p) (known_above old c.closed path p known)));
 }
   where
     each : (full : Node → Bool) → IsCounted full old → full path ≡ was → (p : Node) (b : Bool) → (b ≡ true → p ≡ path) → (o : Option Entry) → old p ≡ o → (u : Bool) → (u ≡ true → is_some (old p) ≡ true) → full p ≡ (if b then here else (full p || (is_none o && u)))
@@ -316,7 +316,7 @@ recount_root old new path was here root same = record {
   places = w.places;
   known = λ p. ap is_some (same p);
   few = w.few;
-  counts = λ full c turns q. subst (λ o. IsTally (filled full old path here) q (children_in o)) (sym (same q)) (root_tally old path here root full c q);
+  counts = λ full c turns q. subst (λ o. IsChildCount (filled full old path here) q (children_in o)) (sym (same q)) (root_tally old path here root full c q);
 }
   where
     w : Raises old new path here
@@ -382,13 +382,13 @@ module _ (old new : Node → Option Entry) (path q : Node) (was here : Bool) (up
           go false e None f false h = grind arith
           go false e (Some s) f u h = grind arith
 
-      at_q : (full : Node → Bool) → IsCounted full old → full path ≡ was → (b : Bool) → here ≡ b → IsTally (filled full old path here) q (if b then s.children + 1 else s.children - 1)
-      at_q full c turns true e = subst (λ n. IsTally (filled full old path here) q (n + 1)) (ap children_in (sym at)) (tally_more full (filled full old path here) q path (children_in (old q)) (c.tally q) up (turns ∙ turned ∙ ap not e) (at_path full ∙ e) (same_but full c))
-      at_q full c turns false e = subst (λ n. IsTally (filled full old path here) q (n - 1)) (ap children_in (sym at)) (tally_less full (filled full old path here) q path (children_in (old q)) (c.tally q) up (turns ∙ turned ∙ ap not e) (at_path full ∙ e) (same_but full c))
+      at_q : (full : Node → Bool) → IsCounted full old → full path ≡ was → (b : Bool) → here ≡ b → IsChildCount (filled full old path here) q (if b then s.children + 1 else s.children - 1)
+      at_q full c turns true e = subst (λ n. IsChildCount (filled full old path here) q (n + 1)) (ap children_in (sym at)) (count_more full (filled full old path here) q path (children_in (old q)) (c.tally q) up (turns ∙ turned ∙ ap not e) (at_path full ∙ e) (same_but full c))
+      at_q full c turns false e = subst (λ n. IsChildCount (filled full old path here) q (n - 1)) (ap children_in (sym at)) (count_less full (filled full old path here) q path (children_in (old q)) (c.tally q) up (turns ∙ turned ∙ ap not e) (at_path full ∙ e) (same_but full c))
 
-      count : (full : Node → Bool) → IsCounted full old → full path ≡ was → (r : Node) (b : Bool) → same_path r q ≡ b → IsTally (filled full old path here) r (children_in (new r))
-      count full c turns r true e = subst (λ x. IsTally (filled full old path here) x (children_in (new x))) (sym (same_path_is r q e)) (subst (λ n. IsTally (filled full old path here) q n) (sym (ap children_in own ∙ kids)) (at_q full c turns here refl))
-      count full c turns r false e = subst (λ n. IsTally (filled full old path here) r n) (sym (ap children_in (other r e))) (tally_same full (filled full old path here) r (children_in (old r)) (c.tally r) (λ p f. same_but full c p (other_child path q r p up e f)))
+      count : (full : Node → Bool) → IsCounted full old → full path ≡ was → (r : Node) (b : Bool) → same_path r q ≡ b → IsChildCount (filled full old path here) r (children_in (new r))
+      count full c turns r true e = subst (λ x. IsChildCount (filled full old path here) x (children_in (new x))) (sym (same_path_is r q e)) (subst (λ n. IsChildCount (filled full old path here) q n) (sym (ap children_in own ∙ kids)) (at_q full c turns here refl))
+      count full c turns r false e = subst (λ n. IsChildCount (filled full old path here) r n) (sym (ap children_in (other r e))) (count_same full (filled full old path here) r (children_in (old r)) (c.tally r) (λ p f. same_but full c p (other_child path q r p up e f)))
 
 -- ---- a place is given
 

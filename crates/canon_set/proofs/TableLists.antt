@@ -12,7 +12,7 @@ use Rattle.canon_set.specs.declared.table.Touched.{Touched}
 use Rattle.canon_set.specs.declared.table.Table.{Table}
 use Rattle.canon_set.specs.Logs.{names}
 use Rattle.canon_set.specs.Leaving.{above}
-use Rattle.canon_set.specs.Entries.{has}
+use Rattle.sync_path.specs.Children.{has}
 use Rattle.canon_set.specs.Touches.{change_of}
 use Rattle.canon_set.specs.Sums.{Sum, StandsFor}
 use Rattle.canon_set.specs.Tables.{place_of, is_over, touch_from, touches_in, children_of, entry_from, entry_at, is_untouched, IsKept}

@@ -1,7 +1,8 @@
 -- The entries of nodes in the table of a sum, and the counts of children that they keep.
-use Rattle.std.specs.Prelude.{◌≡◌, ℕ, ◌+◌, ◌-◌, ◌≤◌, Bool, true, false, not, ◌&&◌, ◌||◌, List, [], ◌∷◌, length, Option, Some, None, is_some, is_none, if◌then◌else◌, cond}
+use Rattle.std.specs.Prelude.{◌≡◌, ℕ, ◌+◌, ◌-◌, ◌≤◌, Bool, true, false, ◌&&◌, ◌||◌, [], ◌∷◌, Option, Some, None, is_some, is_none, if◌then◌else◌, cond}
 use Rattle.std.specs.Ordering.{is_eq}
 use Rattle.sync_path.specs.Paths.{Node, parent, path_cmp, same_path, is_under}
+use Rattle.sync_path.specs.Children.{IsChildCount}
 use Rattle.canon_set.specs.declared.table.Entry.{Entry}
 
 -- the place and the count of children that an entry has
@@ -15,36 +16,11 @@ children_in (Some s) = s.children
 
 -- ---- counts
 
-abbrev pub has_parent : Option Node → Node → Bool
-has_parent None q = false
-has_parent (Some r) q = same_path r q
-
--- p is a child of q
-abbrev pub is_child : Node → Node → Bool
-is_child p q = has_parent (parent p) q
-
--- a list of paths has this one
-abbrev pub has : List Node → Node → Bool
-has [] p = false
-has (k ∷ ks) p = same_path p k || has ks p
-
--- each path stands once in the list
-abbrev pub is_once : List Node → Bool
-is_once [] = true
-is_once (k ∷ ks) = not (has ks k) && is_once ks
-
--- so many children of q are full
-pub record IsTally (full : Node → Bool) (q : Node) (count : ℕ) : Type 0 where
-  pub kids : List Node
-  pub each : (p : Node) → has kids p ≡ (is_child p q && full p)
-  pub once : is_once kids ≡ true
-  pub is : count ≡ length kids
-
 -- what is above a node of the table is in the table, what is full too, and each entry counts the full children
 pub record IsCounted (full : Node → Bool) (entry : Node → Option Entry) : Type 0 where
   pub closed : (q p : Node) → parent p ≡ Some q → is_some (entry p) ≡ true → is_some (entry q) ≡ true
   pub known : (p : Node) → full p ≡ true → is_some (entry p) ≡ true
-  pub tally : (q : Node) → IsTally full q (children_in (entry q))
+  pub tally : (q : Node) → IsChildCount full q (children_in (entry q))
 
 -- ---- how the table changes
 
@@ -71,7 +47,7 @@ pub record Raises (old mid : Node → Option Entry) (path : Node) (here : Bool) 
   pub places : (p : Node) → place_in (mid p) ≡ place_in (old p)
   pub known : (p : Node) → is_some (mid p) ≡ (is_some (old p) || is_under path p)
   pub few : (p : Node) → children_in (mid p) ≤ children_in (old p) + 1
-  pub counts : (full : Node → Bool) → IsCounted full old → (q : Node) → same_path q path ≡ false → IsTally (filled full old path here) q (children_in (mid q))
+  pub counts : (full : Node → Bool) → IsCounted full old → (q : Node) → same_path q path ≡ false → IsChildCount (filled full old path here) q (children_in (mid q))
 
 -- a node comes into the table with those above it
 pub record Enters (old new : Node → Option Entry) (path : Node) (entry : Entry) (here : Bool) : Type 0 where
@@ -79,14 +55,14 @@ pub record Enters (old new : Node → Option Entry) (path : Node) (entry : Entry
   pub places : (p : Node) → same_path p path ≡ false → place_in (new p) ≡ place_in (old p)
   pub known : (p : Node) → is_some (new p) ≡ (is_some (old p) || is_on_way path p)
   pub few : (p : Node) → same_path p path ≡ false → children_in (new p) ≤ children_in (old p) + 1
-  pub counts : (full : Node → Bool) → IsCounted full old → (q : Node) → same_path q path ≡ false → IsTally (filled full old path here) q (children_in (new q))
+  pub counts : (full : Node → Bool) → IsCounted full old → (q : Node) → same_path q path ≡ false → IsChildCount (filled full old path here) q (children_in (new q))
 
 -- a node of the table that was full or not now is or is not
 pub record Recounts (old new : Node → Option Entry) (path : Node) (was here : Bool) : Type 0 where
   pub places : (p : Node) → place_in (new p) ≡ place_in (old p)
   pub known : (p : Node) → is_some (new p) ≡ is_some (old p)
   pub few : (p : Node) → children_in (new p) ≤ children_in (old p) + 1
-  pub counts : (full : Node → Bool) → IsCounted full old → full path ≡ was → (q : Node) → IsTally (filled full old path here) q (children_in (new q))
+  pub counts : (full : Node → Bool) → IsCounted full old → full path ≡ was → (q : Node) → IsChildCount (filled full old path here) q (children_in (new q))
 
 -- the entry with a place
 abbrev pub at_place : ℕ → Option Entry → Option Entry

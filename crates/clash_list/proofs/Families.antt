@@ -7,24 +7,13 @@ use Rattle.std.proofs.lemmas.List.{drop_all}
 use Rattle.std.proofs.lemmas.Bool.{cases_lt}
 use Rattle.std.proofs.lemmas.Option.{slice_get-get_or, slice_get_within}
 use Rattle.sync_path.specs.Paths.{Node, parent}
-use Rattle.sync_path.proofs.CallerLemmas.{same_path_is, same_path_refl}
 use Rattle.sync_command.specs.declared.commands.Row.{Row}
 use Rattle.sync_command.specs.declared.values.Value.TheVariants.{Empty}
-use Rattle.canon_set.specs.Entries.{has_parent, is_child}
+use Rattle.sync_path.specs.Children.{is_child}
+use Rattle.sync_path.proofs.CallerLemmas.{child_at, child_is}
 use Rattle.refluent.specs.Joints.{path_at}
 use Rattle.refluent.specs.Families.{HasParent, IsFirstChild}
 use Rattle.clash_list.specs.ClashLists.{Placed, placed_from, nodes_from, children_from}
-
--- a child, by its parent
-child_is : (p q : Node) → parent p ≡ Some q → is_child p q ≡ true
-child_is p q e = ap (λ o. has_parent o q) e ∙ same_path_refl q
-
-parent_is : (p q : Node) → is_child p q ≡ true → parent p ≡ Some q
-parent_is p q e = go (parent p) e
-  where
-    go : (o : Option Node) → has_parent o q ≡ true → o ≡ Some q
-    go None e = cc (e)
-    go (Some r) e = ap Some (same_path_is r q e)
 
 -- the rows from a place on
 pub record IsOpened (rows : List Row) (place : ℕ) (row : Row) (rest : List Row) : Type 0 where
@@ -107,7 +96,7 @@ children_are rows p from found first = go (drop from rows) from refl found first
                     same e = cc
 
                     differ : row.path ≡ none.2.0 → parent none.2.0 ≡ Some p → ⊥
-                    differ s g = let c : is_child row.path p ≡ true = child_is row.path p (ap parent s ∙ g) in cc (c, other)
+                    differ s g = let c : is_child row.path p ≡ true = child_at row.path p (ap parent s ∙ g) in cc (c, other)
 
             after : (from < k) ⊎ (k ≤ from) → from + 1 ≤ k
             after (inl l) = omega arith
@@ -118,11 +107,11 @@ children_are rows p from found first = go (drop from rows) from refl found first
         split true is o rec = here found first
           where
             has : HasParent rows (Some p) from
-            has = (row.path, path from row o.at, parent_is row.path p is)
+            has = (row.path, path from row o.at, child_is row.path p is)
 
             first_one : (k : ℕ) → from ≡ k → AreFrom rows p (record { place = from; path = row.path } ∷ filter (λ at. is_child at.path p) (placed_from (from + 1) rest)) (Some k)
             first_one k e = subst (λ n. AreFrom rows p (record { place = from; path = row.path } ∷ filter (λ at. is_child at.path p) (placed_from (from + 1) rest)) (Some n)) e
-                (row.path, path from row o.at, parent_is row.path p is, ap (λ l. record { place = from; path = row.path } ∷ filter (λ at. is_child at.path p) (placed_from (from + 1) l)) o.more)
+                (row.path, path from row o.at, child_is row.path p is, ap (λ l. record { place = from; path = row.path } ∷ filter (λ at. is_child at.path p) (placed_from (from + 1) l)) o.more)
 
             here : (o : Option ℕ) → IsFirstChild rows (Some p) from o → AreFrom rows p (record { place = from; path = row.path } ∷ filter (λ at. is_child at.path p) (placed_from (from + 1) rest)) o
             here None none = absurd (none from (omega arith) o.low has)

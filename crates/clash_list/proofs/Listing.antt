@@ -9,7 +9,7 @@ use Rattle.sync_command.specs.declared.commands.Row.{Row}
 use Rattle.sync_command.specs.Changes.{Change, is_change, same_change}
 use Rattle.sync_command.specs.Trees.{command_at, one_each}
 use Rattle.sync_command.proofs.CallerLemmas.{command_at-node, one_each-filter, command_at-filter, passing, passing-is}
-use Rattle.canon_set.specs.Entries.{is_child}
+use Rattle.sync_path.specs.Children.{is_child}
 use Rattle.canon_set.specs.Logs.{names, net, touches}
 use Rattle.canon_set.specs.Leaving.{above}
 use Rattle.canon_set.specs.Sets.{canonical}

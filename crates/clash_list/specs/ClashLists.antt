@@ -4,7 +4,7 @@ use Rattle.std.specs.List.{filter, flat_map}
 use Rattle.sync_path.specs.Paths.{Node}
 use Rattle.sync_command.specs.declared.commands.Row.{Row}
 use Rattle.sync_command.specs.Changes.{Change}
-use Rattle.canon_set.specs.Entries.{is_child}
+use Rattle.sync_path.specs.Children.{is_child}
 use Rattle.refluent.specs.Joints.{Joined}
 use Rattle.clash_list.specs.declared.clashes.Clash.{Clash}
 use Rattle.clash_list.specs.declared.clashes.Clash.TheVariants.{Same, Below}

@@ -7,11 +7,11 @@ use Rattle.sync_command.specs.Values.{is_empty, is_dir}
 use Rattle.sync_command.specs.Changes.{Change}
 use Rattle.sync_command.specs.Trees.{Holding, command_at, after, Fits}
 use Rattle.sync_command.specs.Maps.{Store, at}
-use Rattle.canon_set.specs.Entries.{has_parent, is_child}
+use Rattle.sync_path.specs.Children.{is_child}
 use Rattle.refluent.specs.Sets.{is_in, IsSubset}
 use Rattle.refluent.specs.CommonTrees.{AllChange, IsCommonTree, least_common_tree}
 use Rattle.refluent.specs.Drawn.{drawn_commands}
-use Rattle.sync_path.proofs.CallerLemmas.{HasParentUnder, both, same_path_is, same_path_refl, under_parent, under_split, under_up}
+use Rattle.sync_path.proofs.CallerLemmas.{HasParentUnder, both, child_at, child_is, under_parent, under_split, under_up}
 use Rattle.sync_command.proofs.CallerLemmas.{command_at-node, full_from_dir, tree_above}
 use Rattle.refluent.proofs.CallerLemmas.{after_none, after_some, at_from_in, each_law, fewer, in_from_at, least_law}
 use Rattle.explain_core.specs.Chains.{denies, is_chain, is_denied, is_downward_chain, is_upward_chain, last_from, leads_down, leads_up}
@@ -20,17 +20,6 @@ use Rattle.explain_core.specs.Chains.{denies, is_chain, is_denied, is_downward_c
 pub is_or_not : (b : Bool) → (b ≡ true) ⊎ (b ≡ false)
 is_or_not true = inl refl
 is_or_not false = inr refl
-
--- a child, by its parent
-pub child_is : (q n : Node) → parent n ≡ Some q → is_child n q ≡ true
-child_is q n e = ap (λ o. has_parent o q) e ∙ same_path_refl q
-
-pub child_parent : (q n : Node) → is_child n q ≡ true → parent n ≡ Some q
-child_parent q n e = go (parent n) e
-  where
-    go : (o : Option Node) → has_parent o q ≡ true → o ≡ Some q
-    go None e = cc (e)
-    go (Some r) e = ap Some (same_path_is r q e)
 
 pub not_true : (b : Bool) → not b ≡ true → b ≡ false
 not_true true e = cc
@@ -60,21 +49,21 @@ module _ (u t : Holding) (ms ns : List Change) (fits : Fits t ns) (part : IsSubs
   climb n x [] up denied full =
       let child = both (is_child n x) true up in
       let d = found is_dir (command_at ms x) denied in
-      not_both (is_dir (after ns t x)) (fits.tree x n (child_parent x n child.0) full) (ap is_dir (after_some t ns x d.0 (kept x d.0 d.1)) ∙ d.2)
+      not_both (is_dir (after ns t x)) (fits.tree x n (child_is n x child.0) full) (ap is_dir (after_some t ns x d.0 (kept x d.0 d.1)) ∙ d.2)
   climb n x (y ∷ ys) up denied full =
       let child = both (is_child n x) (leads_up x (y ∷ ys)) up in
       let rest = both (not (is_dir (u x))) (is_denied is_dir u ms (y ∷ ys)) (both (is_none (command_at ms x)) _ denied).1 in
-      climb x y ys child.1 rest.1 (full_from_dir (after ns t x) (fits.tree x n (child_parent x n child.0) full))
+      climb x y ys child.1 rest.1 (full_from_dir (after ns t x) (fits.tree x n (child_is n x child.0) full))
 
   sink : (n : Node) (x : Node) (xs : List Node) → leads_down n (x ∷ xs) ≡ true → is_denied is_empty u ms (x ∷ xs) ≡ true → is_dir (after ns t n) ≡ false → ⊥
   sink n x [] down denied bare =
       let child = both (is_child x n) true down in
       let d = found is_empty (command_at ms x) denied in
-      not_both (is_empty (after ns t x)) (clear _ _ (fits.tree n x (child_parent n x child.0)) bare) (ap is_empty (after_some t ns x d.0 (kept x d.0 d.1)) ∙ d.2)
+      not_both (is_empty (after ns t x)) (clear _ _ (fits.tree n x (child_is x n child.0)) bare) (ap is_empty (after_some t ns x d.0 (kept x d.0 d.1)) ∙ d.2)
   sink n x (y ∷ ys) down denied bare =
       let child = both (is_child x n) (leads_down x (y ∷ ys)) down in
       let rest = both (not (is_empty (u x))) (is_denied is_empty u ms (y ∷ ys)) (both (is_none (command_at ms x)) _ denied).1 in
-      sink x y ys child.1 rest.1 (no_dir (after ns t x) (clear _ _ (fits.tree n x (child_parent n x child.0)) bare))
+      sink x y ys child.1 rest.1 (no_dir (after ns t x) (clear _ _ (fits.tree n x (child_is x n child.0)) bare))
     where
       no_dir : (v : Value) → is_empty v ≡ true → is_dir v ≡ false
       no_dir v e = grind arith
@@ -161,7 +150,7 @@ module _ (u : Holding) (ms : List Change) (fits : Fits u ms) where
       go w rec = split w.way
         where
           child : is_child n w.up ≡ true
-          child = child_is w.up n w.is
+          child = child_at n w.up w.is
 
           ends : (e : Change) → command_at ms w.up ≡ Some e → is_dir e.new ≡ false → WayUp u ms n
           ends e at bare' = record { first = w.up; rest = []; leads = and (is_child n w.up) true child refl; denied = ap (denies is_dir) at ∙ ap not bare' }
@@ -202,7 +191,7 @@ module _ (u : Holding) (ms : List Change) (fits : Fits u ms) where
       go w rec = split w.way
         where
           child : is_child x w.up ≡ true
-          child = child_is w.up x w.is
+          child = child_at x w.up w.is
 
           above : is_empty (after ms u w.up) ≡ false
           above = full_from_dir (after ms u w.up) (fits.tree w.up x w.is full)

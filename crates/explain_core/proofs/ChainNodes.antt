@@ -11,17 +11,17 @@ use Rattle.sync_command.specs.Trees.{command_at}
 use Rattle.canon_set.specs.Logs.{names, net, touches}
 use Rattle.canon_set.specs.Leaving.{above}
 use Rattle.canon_set.specs.Sets.{canonical}
-use Rattle.canon_set.specs.Entries.{has, is_child}
+use Rattle.sync_path.specs.Children.{has, is_child}
 use Rattle.refluent.specs.Sets.{is_in, IsSubset}
 use Rattle.refluent.specs.CommonTrees.{IsAmong, least_common_tree}
 use Rattle.refluent.specs.Drawn.{nets_in_turn, drawn_commands}
-use Rattle.sync_path.proofs.CallerLemmas.{both, same_path_is, under_parent, under_up}
+use Rattle.sync_path.proofs.CallerLemmas.{both, same_path_is, under_parent, under_up, child_is}
 use Rattle.sync_command.proofs.CallerLemmas.{command_at-filter, command_at-node, passing-is}
 use Rattle.canon_set.proofs.CallerLemmas.{is_some-touches, one_each-touches}
 use Rattle.refluent.proofs.CallerLemmas.{at_from_in, in_from_at, is_in-append, is_in-canonical, is_in-without_repeats, untouched_law}
 use Rattle.pref_list.proofs.CallerLemmas.{one_each-net}
 use Rattle.explain_core.specs.Chains.{denies, is_chain, is_denied, is_downward_chain, is_node, is_upward_chain, leads_down, leads_up}
-use Rattle.explain_core.proofs.ChainLaws.{IsAtOrUnder, not_both, not_true, child_parent, is_or_not}
+use Rattle.explain_core.proofs.ChainLaws.{IsAtOrUnder, not_both, not_true, is_or_not}
 
 -- the log that a command in turn comes from
 record IsFrom (logs : List (List Change)) (c : Change) : Type 0 where
@@ -136,13 +136,13 @@ module _ (logs : List (List Change)) (ms : List Change) (part : IsSubset ms (dra
   up_nodes n low x [] up denied z (inl is) = last_node is_dir x z denied is
   up_nodes n low x [] up denied z (inr h) = no_more z h
   up_nodes n low x (y ∷ ys) up denied z (inl is) =
-      let high : is_under c.node x ≡ true = under_next c.node n x low (child_parent x n (both (is_child n x) (leads_up x (y ∷ ys)) up).0) in
+      let high : is_under c.node x ≡ true = under_next c.node n x low (child_is n x (both (is_child n x) (leads_up x (y ∷ ys)) up).0) in
       let rest = both (not (is_dir (least_common_tree logs x))) (is_denied is_dir (least_common_tree logs) ms (y ∷ ys)) (both (is_none (command_at ms x)) _ denied).1 in
       subst (λ q. is_node logs q ≡ true) (sym is) (no_dir_touched x high (not_true (is_dir (least_common_tree logs x)) rest.0))
   up_nodes n low x (y ∷ ys) up denied z (inr h) =
       let parts = both (is_child n x) (leads_up x (y ∷ ys)) up in
       let rest = both (not (is_dir (least_common_tree logs x))) (is_denied is_dir (least_common_tree logs) ms (y ∷ ys)) (both (is_none (command_at ms x)) _ denied).1 in
-      up_nodes x (inr (under_next c.node n x low (child_parent x n parts.0))) y ys parts.1 rest.1 z (one_of y ys z h)
+      up_nodes x (inr (under_next c.node n x low (child_is n x parts.0))) y ys parts.1 rest.1 z (one_of y ys z h)
 
   down_nodes : (x : Node) (xs : List Node) → is_denied is_empty (least_common_tree logs) ms (x ∷ xs) ≡ true → (z : Node) → (z ≡ x) ⊎ (has xs z ≡ true) → is_node logs z ≡ true
   down_nodes x [] denied z (inl is) = last_node is_empty x z denied is

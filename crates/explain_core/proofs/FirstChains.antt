@@ -9,15 +9,15 @@ use Rattle.sync_command.specs.declared.values.Value.{Value}
 use Rattle.sync_command.specs.Changes.{Change, same_change}
 use Rattle.sync_command.specs.Trees.{Holding, after, command_at, Fits}
 use Rattle.sync_command.specs.Maps.{Store, at}
-use Rattle.canon_set.specs.Entries.{is_child}
+use Rattle.sync_path.specs.Children.{is_child}
 use Rattle.refluent.specs.Sets.{is_in, IsSubset}
 use Rattle.refluent.specs.CommonTrees.{AllChange, IsCommonTree, least_common_tree}
 use Rattle.refluent.specs.Drawn.{drawn_commands}
-use Rattle.sync_path.proofs.CallerLemmas.{HasParentUnder, before_asym, before_total, before_trans, both, closed_up, parent_apart, parent_before, same_path_at, same_path_is, under_down, under_parent, under_shorter, under_split, under_up}
+use Rattle.sync_path.proofs.CallerLemmas.{HasParentUnder, before_asym, before_total, before_trans, both, closed_up, parent_apart, parent_before, same_path_at, same_path_is, under_down, under_parent, under_shorter, under_split, under_up, child_is}
 use Rattle.sync_command.proofs.CallerLemmas.{command_at-node, full_from_dir, tree_above}
 use Rattle.refluent.proofs.CallerLemmas.{after_none, after_some, at_from_in, fewer, in_from_at, same_change_is, same_change_refl}
 use Rattle.explain_core.specs.Chains.{IsFirstChain, denies, goes_first, is_chain, is_denied, is_downward_chain, is_upward_chain, last_from, leads_down, leads_up}
-use Rattle.explain_core.proofs.ChainLaws.{IsAtOrUnder, WayDown, WayFrom, WayUp, all3, and, at_or_under_up, down_chain, found, least_fits, not_both, not_true, child_parent, is_or_not, up_chain, way_down, way_up}
+use Rattle.explain_core.proofs.ChainLaws.{IsAtOrUnder, WayDown, WayFrom, WayUp, all3, and, at_or_under_up, down_chain, found, least_fits, not_both, not_true, is_or_not, up_chain, way_down, way_up}
 
 -- the first leaves its node other than a directory, and the second leaves something under that node
 abbrev stands_over : Change → Change → Bool
@@ -69,12 +69,12 @@ last_low n x [] down = inl refl
 last_low n x (y ∷ ys) down =
     let parts = both (is_child x n) (leads_down x (y ∷ ys)) down in
     let next = both (is_child y x) (leads_down y ys) parts.1 in
-    at_or_under_up (last_from y ys) y x (last_low x y ys parts.1) (child_parent x y next.0)
+    at_or_under_up (last_from y ys) y x (last_low x y ys parts.1) (child_is y x next.0)
 
 -- of two lists that lead down from a node and end at or above one node, the first nodes are the same
 heads : (n e x : Node) (xs : List Node) (y : Node) (ys : List Node) → leads_down n (x ∷ xs) ≡ true → leads_down n (y ∷ ys) ≡ true → IsAtOrUnder e (last_from x xs) → IsAtOrUnder e (last_from y ys) → x ≡ y
 heads n e x xs y ys dx dy ox oy =
-    one_child (length e) n x y e (omega arith) (child_parent n x (both (is_child x n) (leads_down x xs) dx).0) (child_parent n y (both (is_child y n) (leads_down y ys) dy).0)
+    one_child (length e) n x y e (omega arith) (child_is x n (both (is_child x n) (leads_down x xs) dx).0) (child_is y n (both (is_child y n) (leads_down y ys) dy).0)
     (at_or_under e (last_from x xs) x ox (last_low n x xs dx)) (at_or_under e (last_from y ys) y oy (last_low n y ys dy))
 
 clash : {A : Type 0} (demand : Value → Bool) (o : Option Change) → denies demand o ≡ true → is_none o ≡ true → A
@@ -86,7 +86,7 @@ apart_none None a b = cc (a)
 apart_none (Some d) a b = cc (b)
 
 tops : (n x : Node) (xs : List Node) (y : Node) (ys : List Node) → leads_up n (x ∷ xs) ≡ true → leads_up n (y ∷ ys) ≡ true → x ≡ y
-tops n x xs y ys ux uy = some_is (sym (child_parent x n (both (is_child n x) (leads_up x xs) ux).0) ∙ child_parent y n (both (is_child n y) (leads_up y ys) uy).0)
+tops n x xs y ys ux uy = some_is (sym (child_is n x (both (is_child n x) (leads_up x xs) ux).0) ∙ child_is n y (both (is_child n y) (leads_up y ys) uy).0)
 
 -- a command of a list that passes a test, or none
 pub any_is : (f : Change → Bool) (cs : List Change) → list_any f cs ≡ true → (d : Change) × (is_in cs d ≡ true) × (f d ≡ true)
@@ -142,8 +142,8 @@ module _ (u : Holding) (ms : List Change) where
 
 -- what leads up ends above where it began
 pub last_high : (n x : Node) (xs : List Node) → leads_up n (x ∷ xs) ≡ true → is_under n (last_from x xs) ≡ true
-last_high n x [] up = under_parent x n (child_parent x n (both (is_child n x) true up).0)
-last_high n x (y ∷ ys) up = let parts = both (is_child n x) (leads_up x (y ∷ ys)) up in closed_up (λ z. is_under n z) (λ r s e w. under_up n s r w e) x (last_from y ys) (last_high x y ys parts.1) (under_parent x n (child_parent x n parts.0))
+last_high n x [] up = under_parent x n (child_is n x (both (is_child n x) true up).0)
+last_high n x (y ∷ ys) up = let parts = both (is_child n x) (leads_up x (y ∷ ys)) up in closed_up (λ z. is_under n z) (λ r s e w. under_up n s r w e) x (last_from y ys) (last_high x y ys parts.1) (under_parent x n (child_is n x parts.0))
 
 -- no list leads both up and down
 pub not_both_ways : (n x : Node) (xs : List Node) → leads_down n (x ∷ xs) ≡ true → leads_up n (x ∷ xs) ≡ false
@@ -151,7 +151,7 @@ not_both_ways n x xs down = decide (is_or_not (leads_up n (x ∷ xs)))
   where
     decide : (leads_up n (x ∷ xs) ≡ true) ⊎ (leads_up n (x ∷ xs) ≡ false) → leads_up n (x ∷ xs) ≡ false
     decide (inr e) = e
-    decide (inl e) = absurd (never x n (child_parent x n (both (is_child n x) (leads_up x xs) e).0) (under_parent n x (child_parent n x (both (is_child x n) (leads_down x xs) down).0)))
+    decide (inl e) = absurd (never x n (child_is n x (both (is_child n x) (leads_up x xs) e).0) (under_parent n x (child_is x n (both (is_child x n) (leads_down x xs) down).0)))
 
 -- ---- the first of those that lead down
 
@@ -207,7 +207,7 @@ module _ (u : Holding) (ms : List Change) (fits : Fits u ms) (c : Change) where
           one_is e = cc
 
           child : is_under other.first c.node ≡ true
-          child = under_parent c.node other.first (child_parent c.node other.first (both (is_child other.first c.node) (leads_down other.first other.rest) other.leads).0)
+          child = under_parent c.node other.first (child_is other.first c.node (both (is_child other.first c.node) (leads_down other.first other.rest) other.leads).0)
 
           below : IsAtOrUnder (ends other) other.first → is_under (ends other) c.node ≡ true
           below (inl e) = ap (λ z. is_under z c.node) e ∙ child
@@ -352,8 +352,8 @@ module _ (u : Holding) (ms : List Change) (fits : Fits u ms) (c : Change) where
 
   -- each node on a way down comes before the last
   before_last : (x y : Node) (ys : List Node) → leads_down x (y ∷ ys) ≡ true → comes_before x (last_from y ys) ≡ true
-  before_last x y [] down = parent_before x y (child_parent x y (both (is_child y x) true down).0)
-  before_last x y (z ∷ zs) down = let parts = both (is_child y x) (leads_down y (z ∷ zs)) down in before_trans x y (last_from z zs) (parent_before x y (child_parent x y parts.0)) (before_last y z zs parts.1)
+  before_last x y [] down = parent_before x y (child_is y x (both (is_child y x) true down).0)
+  before_last x y (z ∷ zs) down = let parts = both (is_child y x) (leads_down y (z ∷ zs)) down in before_trans x y (last_from z zs) (parent_before x y (child_is y x parts.0)) (before_last y z zs parts.1)
 
   module _ (d : Change) (there : command_at ms d.node ≡ Some d) (full : is_empty d.new ≡ false)
       (nearest : (e : Change) → is_in ms e ≡ true → is_under e.node c.node ≡ true → is_empty e.new ≡ false → comes_before e.node d.node ≡ false) where
@@ -365,7 +365,7 @@ module _ (u : Holding) (ms : List Change) (fits : Fits u ms) (c : Change) where
         parts = both (is_child y x) (leads_down y ys) down
 
         up : parent y ≡ Some x
-        up = child_parent x y parts.0
+        up = child_is y x parts.0
 
         below : IsAtOrUnder (last_from y ys) y → is_under (last_from y ys) x ≡ true
         below (inl e) = subst (λ z. is_under z x ≡ true) (sym e) (under_parent x y up)
@@ -386,7 +386,7 @@ module _ (u : Holding) (ms : List Change) (fits : Fits u ms) (c : Change) where
     nearest_first none bare no_up x xs down ends = record { chain = down_chain u ms fits c none bare way; first = each }
       where
         child : is_under x c.node ≡ true
-        child = under_parent c.node x (child_parent c.node x (both (is_child x c.node) (leads_down x xs) down).0)
+        child = under_parent c.node x (child_is x c.node (both (is_child x c.node) (leads_down x xs) down).0)
 
         way : WayDown u ms c.node
         way = record { first = x; rest = xs; leads = down; denied = denied_down x xs child (both (is_child x c.node) (leads_down x xs) down).1 ends }
@@ -412,7 +412,7 @@ module _ (u : Holding) (ms : List Change) (fits : Fits u ms) (c : Change) where
                 low = below (last_low c.node y ys parts.1)
                   where
                     top : is_under y c.node ≡ true
-                    top = under_parent c.node y (child_parent c.node y (both (is_child y c.node) (leads_down y ys) parts.1).0)
+                    top = under_parent c.node y (child_is y c.node (both (is_child y c.node) (leads_down y ys) parts.1).0)
 
                     below : IsAtOrUnder (last_from y ys) y → is_under (last_from y ys) c.node ≡ true
                     below (inl e) = ap (λ z. is_under z c.node) e ∙ top

@@ -10,20 +10,20 @@ use Rattle.sync_command.specs.Values.{is_dir, is_empty}
 use Rattle.sync_command.specs.Changes.{Change}
 use Rattle.sync_command.specs.Trees.{Fits, command_at}
 use Rattle.sync_command.specs.Maps.{at, value_or_empty}
-use Rattle.canon_set.specs.Entries.{has, is_child}
+use Rattle.sync_path.specs.Children.{has, is_child}
 use Rattle.canon_set.specs.Logs.{names}
 use Rattle.canon_set.specs.Leaving.{above}
 use Rattle.refluent.specs.CommonTrees.{IsAmong, least_common_tree}
 use Rattle.refluent.specs.Drawn.{drawn_commands}
 use Rattle.refluent.specs.Joints.{Joined, StandsForAll, concerns, is_ascending, path_at, some_if}
 use Rattle.refluent.specs.Sets.{IsSubset, is_in}
-use Rattle.sync_path.proofs.CallerLemmas.{both, closed_up, same_path_refl, under_parent, under_up}
+use Rattle.sync_path.proofs.CallerLemmas.{both, closed_up, same_path_refl, under_parent, under_up, child_is}
 use Rattle.sync_command.proofs.CallerLemmas.{command_at-node}
 use Rattle.refluent.proofs.CallerLemmas.{at_from_in, concerns_named, has_node, in_from_at, untouched_law}
 use Rattle.explain_core.specs.Chains.{IsFirstChain, denies, is_chain, is_denied, is_downward_chain, is_node, is_upward_chain, last_from, leads_down, leads_up}
 use Rattle.explain_core.specs.FirstChains.{first_chain, first_left_under, first_tree, is_left_under, way_to, way_up}
 use Rattle.explain_core.specs.Reasons.{AreAt, place_of}
-use Rattle.explain_core.proofs.ChainLaws.{IsAtOrUnder, and, child_parent, found, not_both, is_or_not}
+use Rattle.explain_core.proofs.ChainLaws.{IsAtOrUnder, and, found, not_both, is_or_not}
 use Rattle.explain_core.proofs.ChainNodes.{IsTouched, drawn_touched, node_law}
 use Rattle.explain_core.proofs.Deciding.{chain_down, chain_own, chain_up}
 use Rattle.explain_core.proofs.Finding.{found_first, none_left}
@@ -128,7 +128,7 @@ down_under : (n x : Node) (xs : List Node) → leads_down n (x ∷ xs) ≡ true 
 down_under n x xs down = go (last_low n x xs down)
   where
     top : is_under x n ≡ true
-    top = under_parent n x (child_parent n x (both (is_child x n) (leads_down x xs) down).0)
+    top = under_parent n x (child_is x n (both (is_child x n) (leads_down x xs) down).0)
 
     go : IsAtOrUnder (last_from x xs) x → is_under (last_from x xs) n ≡ true
     go (inl e) = ap (λ z. is_under z n) e ∙ top

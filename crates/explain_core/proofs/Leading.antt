@@ -7,11 +7,11 @@ use Rattle.sync_path.specs.Paths.{IsUnder, Node, is_under, parent}
 use Rattle.sync_command.specs.declared.values.Value.{Value}
 use Rattle.sync_command.specs.Changes.{Change}
 use Rattle.sync_command.specs.Trees.{Holding, command_at}
-use Rattle.canon_set.specs.Entries.{is_child}
-use Rattle.sync_path.proofs.CallerLemmas.{both, parent_is, parent_shorter, under_is}
+use Rattle.sync_path.specs.Children.{is_child}
+use Rattle.sync_path.proofs.CallerLemmas.{both, parent_is, parent_shorter, under_is, child_at, child_is}
 use Rattle.explain_core.specs.Chains.{denies, is_denied, last_from, leads_down, leads_up}
 use Rattle.explain_core.specs.FirstChains.{ancestors, ancestors_from, to_command, way_down, way_to, way_up}
-use Rattle.explain_core.proofs.ChainLaws.{and, child_is, child_parent, found}
+use Rattle.explain_core.proofs.ChainLaws.{and, found}
 
 -- ---- up
 
@@ -50,8 +50,8 @@ module _ (ms : List Change) where
       go (Some q) e = split (command_at ms q) refl
         where
           split : (o : Option Change) → command_at ms q ≡ o → leads_up n (way_up ms n) ≡ true
-          split None none = ap (leads_up n) (up_none n q e none) ∙ and (is_child n q) (leads_up q (way_up ms q)) (child_is q n e) (rec q (parent_shorter q n e))
-          split (Some d) some = ap (leads_up n) (up_some n q d e some) ∙ and (is_child n q) true (child_is q n e) refl
+          split None none = ap (leads_up n) (up_none n q e none) ∙ and (is_child n q) (leads_up q (way_up ms q)) (child_at n q e) (rec q (parent_shorter q n e))
+          split (Some d) some = ap (leads_up n) (up_some n q d e some) ∙ and (is_child n q) true (child_at n q e) refl
 
   up_leads_in : (k : ℕ) (n : Node) → length n ≤ k → leads_up n (way_up ms n) ≡ true
   up_leads_in zero n short = up_leads_by n (λ q s. absurd (omega arith))
@@ -74,12 +74,12 @@ module _ (demand : Value → Bool) (t : Holding) (ms : List Change) where
   pub up_is : (n x : Node) (xs : List Node) → leads_up n (x ∷ xs) ≡ true → is_denied demand t ms (x ∷ xs) ≡ true → ◌≡◌ {A = List Node} (x ∷ xs) (way_up ms n)
   up_is n x [] up denied =
       let d = found demand (command_at ms x) denied in
-      sym (up_some ms n x d.0 (child_parent x n (both (is_child n x) true up).0) d.1)
+      sym (up_some ms n x d.0 (child_is n x (both (is_child n x) true up).0) d.1)
   up_is n x (y ∷ ys) up denied =
       let parts = both (is_child n x) (leads_up x (y ∷ ys)) up in
       let rest = both (is_none (command_at ms x)) (not (demand (t x)) && is_denied demand t ms (y ∷ ys)) denied in
       let more = both (not (demand (t x))) (is_denied demand t ms (y ∷ ys)) rest.1 in
-      ap (λ l. x ∷ l) (up_is x y ys parts.1 more.1) ∙ sym (up_none ms n x (child_parent x n parts.0) (none_is (command_at ms x) rest.0))
+      ap (λ l. x ∷ l) (up_is x y ys parts.1 more.1) ∙ sym (up_none ms n x (child_is n x parts.0) (none_is (command_at ms x) rest.0))
     where
       none_is : (o : Option Change) → is_none o ≡ true → o ≡ None
       none_is None e = refl
@@ -132,7 +132,7 @@ down_leads : (n : Node) → 0 < length n → (names : List (List ℕ)) → leads
 down_leads n some [] = refl
 down_leads n some (name ∷ names) =
     and (is_child (n ++ name ∷ []) n) (leads_down (n ++ name ∷ []) (way_down (n ++ name ∷ []) names))
-    (child_is n (n ++ name ∷ []) ((parent_is (n ++ name ∷ []) n).1 (name, some, refl)))
+    (child_at (n ++ name ∷ []) n ((parent_is (n ++ name ∷ []) n).1 (name, some, refl)))
     (down_leads (n ++ name ∷ []) (let long : length (n ++ name ∷ []) ≡ length n + 1 = length-append n (name ∷ []) in omega (arith, long)) names)
 
 down_last : (n : Node) (names : List (List ℕ)) → last_from n (way_down n names) ≡ n ++ names

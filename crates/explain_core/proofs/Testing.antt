@@ -8,17 +8,17 @@ use Rattle.sync_command.specs.declared.values.Value.{Value}
 use Rattle.sync_command.specs.declared.commands.Row.{Row}
 use Rattle.sync_command.specs.Changes.{Change}
 use Rattle.sync_command.specs.Trees.{Holding, command_at, one_each}
-use Rattle.canon_set.specs.Entries.{is_child}
+use Rattle.sync_path.specs.Children.{is_child}
 use Rattle.refluent.specs.Joints.{Joined, path_at}
 use Rattle.refluent.specs.Sets.{is_in}
 use Rattle.pref_list.specs.Ranking.{set_from, set_of}
-use Rattle.sync_path.proofs.CallerLemmas.{both}
+use Rattle.sync_path.proofs.CallerLemmas.{both, child_at, child_is}
 use Rattle.pref_list.proofs.CallerLemmas.{path_within}
 use Rattle.explain_core.specs.Chains.{denies, is_chain, is_denied, is_downward_chain, is_upward_chain, leads_down, leads_up}
 use Rattle.explain_core.specs.FirstChains.{first_tree}
 use Rattle.explain_core.specs.Reasons.{AreAt, Shows}
 use Rattle.explain_core.specs.declared.reasons.Reason.{Reason}
-use Rattle.explain_core.proofs.ChainLaws.{child_is, child_parent, not_true}
+use Rattle.explain_core.proofs.ChainLaws.{not_true}
 use Rattle.explain_core.proofs.Listing.{has_is, has_not}
 use Rattle.explain_core.proofs.Placing.{at_first, at_rest, path_below, some_is}
 
@@ -103,12 +103,12 @@ down_all rows n via xs e index before over d = sym (d.same ∙ ap (leads_down d.
 
 -- a child, by the test of its parent
 pub child_test : (p q : Node) (b : Bool) → (b ≡ true → parent p ≡ Some q) → (parent p ≡ Some q → b ≡ true) → b ≡ is_child p q
-child_test p q true is same = sym (child_is q p (is refl))
+child_test p q true is same = sym (child_at p q (is refl))
 child_test p q false is same = go (is_child p q) refl
   where
     go : (b : Bool) → is_child p q ≡ b → false ≡ b
     go false e = refl
-    go true e = let t : false ≡ true = same (child_parent q p e) in cc (t)
+    go true e = let t : false ≡ true = same (child_is p q e) in cc (t)
 
 -- ---- what is denied
 

@@ -7,7 +7,7 @@ use Rattle.sync_command.specs.Values.{is_empty, is_dir}
 use Rattle.sync_command.specs.Changes.{Change}
 use Rattle.sync_command.specs.Trees.{Holding, command_at}
 use Rattle.canon_set.specs.Logs.{names}
-use Rattle.canon_set.specs.Entries.{is_child}
+use Rattle.sync_path.specs.Children.{is_child}
 use Rattle.refluent.specs.CommonTrees.{least_common_tree}
 use Rattle.refluent.specs.Drawn.{drawn_commands}
 use Rattle.refluent.specs.Sets.{is_in}

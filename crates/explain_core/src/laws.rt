@@ -7,7 +7,7 @@ ghost use Rattle.sync_command.specs.Values.{is_dir, is_empty};
 ghost use Rattle.sync_command.specs.Changes.{Change};
 ghost use Rattle.sync_command.specs.Trees.{command_at, Fits};
 ghost use Rattle.sync_command.specs.Maps.{Store, at};
-ghost use Rattle.canon_set.specs.Entries.{has};
+ghost use Rattle.sync_path.specs.Children.{has};
 ghost use Rattle.refluent.specs.Sets.{is_in, IsSubset};
 ghost use Rattle.refluent.specs.CommonTrees.{AllChange, IsCommonTree, least_common_tree};
 ghost use Rattle.refluent.specs.Drawn.{drawn_commands};

@@ -3,7 +3,7 @@
 ghost use Rattle.std.specs.Prelude.{◌≡◌, ◌<◌, ◌↔◌, ◌&&◌, ◌||◌, not, is_none, List, length, Some, IsTrue};
 ghost use Rattle.sync_path.specs.Paths.{Node};
 ghost use Rattle.sync_command.specs.Trees.{command_at};
-ghost use Rattle.canon_set.specs.Entries.{is_child};
+ghost use Rattle.sync_path.specs.Children.{is_child};
 ghost use Rattle.refluent.specs.Joints.{IsJoint, path_at};
 ghost use Rattle.refluent.specs.Sets.{is_in};
 ghost use Rattle.explain_core.specs.Chains.{denies, is_chain, is_denied, is_downward_chain, is_upward_chain, leads_down, leads_up};

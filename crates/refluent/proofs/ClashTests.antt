@@ -1,12 +1,12 @@
 -- A set with one command per node has no clash exactly where no command leaves a node other than a directory while another leaves a child of it non-empty.
 use Rattle.std.proofs.Common.{◌≡◌, Bool, true, false, not, ◌&&◌, ◌||◌, List, [], ◌∷◌, Option, Some, None, refl, sym, ap, subst, ◌∙◌, arith}
 use Rattle.std.specs.Prelude.{is_none}
-use Rattle.sync_path.specs.Paths.{Node, parent, same_path}
+use Rattle.sync_path.specs.Paths.{parent, same_path}
 use Rattle.sync_command.specs.Values.{is_empty, is_dir}
 use Rattle.sync_command.specs.Changes.{Change, same_change}
 use Rattle.sync_command.specs.Trees.{command_at, one_each}
-use Rattle.canon_set.specs.Entries.{has_parent, is_child}
-use Rattle.sync_path.proofs.CallerLemmas.{both, same_path_is, same_path_at, same_path_refl}
+use Rattle.sync_path.specs.Children.{is_child}
+use Rattle.sync_path.proofs.CallerLemmas.{both, child_at, child_is, same_path_is, same_path_at}
 use Rattle.sync_command.proofs.CallerLemmas.{command_at-node}
 use Rattle.refluent.proofs.Prerequisites.{LeavesNoChild}
 use Rattle.refluent.proofs.Sets.{at_from_in, in_from_at, same_change_at, same_change_is, same_change_refl}
@@ -18,17 +18,6 @@ neither a b c e = grind arith
 
 not_both : (a b : Bool) → (a && not b) ≡ false → a ≡ true → b ≡ true
 not_both a b e f = grind arith
-
--- a child, by its parent
-child_is : (q n : Node) → parent n ≡ Some q → is_child n q ≡ true
-child_is q n e = ap (λ o. has_parent o q) e ∙ same_path_refl q
-
-parent_is : (q n : Node) → is_child n q ≡ true → parent n ≡ Some q
-parent_is q n e = go (parent n) e
-  where
-    go : (o : Option Node) → has_parent o q ≡ true → o ≡ Some q
-    go None e = cc (e)
-    go (Some r) e = ap Some (same_path_is r q e)
 
 -- what clashes with nothing of its node is the only command there
 pub one_from_no_clash : (cs : List Change) → all_differ cs ≡ true → HasNoClash cs → one_each cs ≡ true
@@ -61,7 +50,7 @@ leaves_no_child cs apart q n d c e at at' other =
     go (neither (same_path d.node c.node && not (same_change d c)) (clashes_below d c) (clashes_below c d) (apart d c (in_from_at cs q d at) (in_from_at cs n c at'))).1
   where
     below : is_child c.node d.node ≡ true
-    below = child_is d.node c.node (ap parent (sym (command_at-node cs n c at')) ∙ e ∙ ap Some (command_at-node cs q d at))
+    below = child_at c.node d.node (ap parent (sym (command_at-node cs n c at')) ∙ e ∙ ap Some (command_at-node cs q d at))
 
     go : clashes_below d c ≡ false → is_empty c.new ≡ true
     go f = fin (is_dir d.new) (is_child c.node d.node) (is_empty c.new) f other below
@@ -91,4 +80,4 @@ has_no_clash cs one none c d i j = all (same_node (same_path c.node d.node) (sam
         go : (a : Bool) → is_dir x.new ≡ a → (b : Bool) → is_child y.node x.node ≡ b → (not a && (b && not (is_empty y.new))) ≡ false
         go true e b f = refl
         go false e false f = refl
-        go false e true f = ap not (none x.node y.node x y (parent_is x.node y.node f) (at_from_in cs one x i) (at_from_in cs one y j) e)
+        go false e true f = ap not (none x.node y.node x y (child_is y.node x.node f) (at_from_in cs one x i) (at_from_in cs one y j) e)

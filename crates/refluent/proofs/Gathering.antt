@@ -13,15 +13,14 @@ use Rattle.std.proofs.lemmas.List.Sorted.{sorted_far, ranks_by, Contains-permuta
 use Rattle.std.proofs.lemmas.Option.{slice_get-map, slice_get_within, slice_get-get_or, get_or_from_slice_get}
 use Rattle.std.proofs.lemmas.Bool.{cases_lt}
 use Rattle.std.proofs.lemmas.Bool.Decides.{nat_tests}
-use Rattle.std.proofs.lemmas.Cmp.{then_total}
-use Rattle.std.proofs.lemmas.Cmp.{nat_cmp_total}
+use Rattle.std.proofs.lemmas.Cmp.{then_total, nat_cmp_total}
 use Rattle.sync_path.specs.Paths.{Node, parent, comes_before, path_cmp, same_path}
 use Rattle.sync_path.specs.Order.{path_cmp_total}
 use Rattle.sync_command.specs.Changes.{Change}
 use Rattle.sync_command.specs.Trees.{command_at, one_each}
 use Rattle.canon_set.specs.Logs.{names, touches}
 use Rattle.canon_set.specs.Leaving.{above, leaves}
-use Rattle.canon_set.specs.Entries.{has}
+use Rattle.sync_path.specs.Children.{has}
 use Rattle.canon_set.specs.Sums.{Sum, StandsFor, IsSum, touch_of, table_of}
 use Rattle.canon_set.specs.declared.touches.Touch.{Touch}
 use Rattle.refluent.specs.Joints.{AreSums, EachStandsFor}

@@ -3,7 +3,7 @@ use Rattle.std.specs.Prelude.{◌≡◌, Bool, true, false, not, ◌&&◌, ◌||
 use Rattle.sync_path.specs.Paths.{same_path}
 use Rattle.sync_command.specs.Values.{is_empty, is_dir}
 use Rattle.sync_command.specs.Changes.{Change, same_change}
-use Rattle.canon_set.specs.Entries.{is_child}
+use Rattle.sync_path.specs.Children.{is_child}
 use Rattle.refluent.specs.Sets.{is_in}
 
 -- the first leaves a node other than a directory, and the second leaves a child of that node non-empty

@@ -14,6 +14,10 @@ pub use Rattle.sync_path.proofs.Under.{under_parent, under_up, under_down, under
 pub use Rattle.sync_path.proofs.Under.{HasParentUnder, under_split, closed_up, closed_down}
 -- the same as a fact, `IsUnder`
 pub use Rattle.sync_path.proofs.OrderLaws.{under_is, IsUnder-parent, under_after, contiguous}
+-- children: the test, what it says, and counts of those that are full
+pub use Rattle.sync_path.proofs.ChildCounts.{child_at, child_is}
+pub use Rattle.sync_path.proofs.ChildCounts.{count_same, count_more, count_less}
+pub use Rattle.sync_path.proofs.ChildCounts.{count_empty, count_some, count_none, count_low}
 -- lists of nodes
 pub use Rattle.sync_path.proofs.PathLists.{lists, lists-append, prefixes, under_listed}
 -- texts that are read again, and what is read

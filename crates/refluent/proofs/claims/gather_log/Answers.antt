@@ -1,7 +1,7 @@
 use Rattle.std.proofs.Common.{◌≡◌, length, arith, ap, ◌∙◌, sym}
 use Rattle.std.proofs.lemmas.Iterator.Consumers.{YieldsList-end}
 use Rattle.std.proofs.lemmas.Iterator.Adapters.{YieldsList-from_vec}
-use Rattle.canon_set.specs.Entries.{has}
+use Rattle.sync_path.specs.Children.{has}
 use Rattle.refluent.proofs.Gathering.{adds, map_self}
 use Rattle.refluent.proofs.claims.gather_log.Goals as goal
 
