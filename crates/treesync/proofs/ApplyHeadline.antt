@@ -7,24 +7,24 @@ use Rattle.sync_command.specs.Trees.{after}
 use Rattle.sync_port.specs.Ports.{FileContents, Names, SinkState}
 use Rattle.sync_port.specs.States.{IfBoth}
 use Rattle.tree_port.specs.States.{TreeState}
-use Rattle.resume_apply.specs.Finishing.{IsPaid}
+use Rattle.resume_apply.specs.Finishing.{IsPaid, counted_on}
 use Rattle.resume_apply.specs.Ready.{IsOnItsWay, IsReady, work}
 use Rattle.tool_words.specs.Jobs.{job_of}
 use Rattle.tool_words.specs.Words.{Operand, Text}
 use Rattle.tool_words.specs.declared.job.Job.TheVariants.{Apply}
-use Rattle.treesync.specs.Apply.{Applies, IsApply, IsSetOf, applied_text}
+use Rattle.treesync.specs.Apply.{Applies, IsApply, IsNumbered, IsSetOf, applied_text}
 use Rattle.treesync.specs.Ends.{Prints}
-use Rattle.treesync.specs.Headline.{CompletesOnTree, Gains, GainsApplied, GoesOn, HoldsSet, KeepsUnready, Paid, PrintsApplied, Recorded, ResumesApply, text_of}
-use Rattle.treesync.specs.Jobs.{AppliesFile, IsSetHeld, InputsCounted, IsAnswer, IsRefused, LeavesTreesOf, Outside, Ran, held_tree, inputs_of}
+use Rattle.treesync.specs.Headline.{CompletesOnTree, Gains, GainsApplied, GoesOn, HoldsSet, IsChangedBy, KeepsUnready, Paid, PrintsApplied, PrintsChanges, Recorded, ResumesApply, text_of}
+use Rattle.treesync.specs.Jobs.{AppliesFile, IsSetHeld, InputsCounted, IsAnswer, IsRefused, LeavesTreesOf, Outside, Ran, held_tree, inputs_of, shows_output}
 use Rattle.treesync.specs.Messages.{failure_status}
-use Rattle.treesync.specs.Outputs.{AsText, Output}
+use Rattle.treesync.specs.Outputs.{AsText, Output, text_in}
 use Rattle.treesync.specs.declared.input.TheConstants.{FILE_LIMIT}
 use Rattle.treesync.specs.declared.logs.TheConstants.{FULL_ALLOWANCE, MAX_COMMANDS}
 use Rattle.treesync.specs.declared.refusal.Refusal.{Refusal}
 use Rattle.treesync.specs.declared.refusal.Refusal.TheVariants.{InvalidArguments, OutOfMemory, CallFailed, Found}
 use Rattle.treesync.specs.declared.refusal.Failure.{Failure}
 use Rattle.treesync.specs.declared.refusal.Failure.TheVariants.{ReadFailed, TreeFailed, TreeDenied}
-use Rattle.treesync.proofs.HeadlineLemmas.{found_text, job_answer, text_completes}
+use Rattle.treesync.proofs.HeadlineLemmas.{found_text, gained, job_answer, text_completes}
 use Rattle.treesync.proofs.HeldLogs.{log_read, read_of}
 use Rattle.treesync.proofs.Unique.{apply_one, set_one}
 use Rattle.treesync.proofs.Words.{failure_above, finding_above}
@@ -97,10 +97,10 @@ module _ (held : Names) (file : Operand) (set : List Change) (holds : HoldsSet h
       same_set held file set other holds (subst (λ (y : Names). IsSetOf file y false (Ok other)) (ap (λ (c : FileContents). c.held) same ∙ f) h)
 
   file_left : (files : Option FileContents) (k : FileContents) (answer : Result Output Refusal) (trees later : List TreeState) → files ≡ Some k → k.held ≡ held → held_tree trees ≡ Some m →
-      AppliesFile file files answer trees later → Left set m answer trees later
+      AppliesFile shows_output file files answer trees later → Left set m answer trees later
   file_left files k answer [] later e f g h = absurd h
   file_left files k answer (tree ∷ []) [] e f g h = absurd h
-  file_left files k answer (tree ∷ []) (now ∷ []) e f g (other, is, a) = applied_left answer tree now g (subst (λ s. Applies s answer tree now) (set_held_is files k other e f is) a)
+  file_left files k answer (tree ∷ []) (now ∷ []) e f g ((other, is, a), n) = applied_left answer tree now g (subst (λ s. Applies s answer tree now) (set_held_is files k other e f is) a)
   file_left files k answer (tree ∷ []) (now ∷ (next ∷ later)) e f g h = absurd h
   file_left files k answer (tree ∷ (next ∷ trees)) later e f g h = absurd h
 
@@ -133,7 +133,7 @@ module _ (words : List Text) (before now : Outside) (status : ℕ) (ran : Ran wo
   left : Left set tree ran.answer before.trees now.trees
   left = by (subst (λ j. LeavesTreesOf j before.files.contents ran.answer before.trees now.trees) e ran.trees)
     where
-      by : ((now.trees ≡ before.trees) × IsRefused ran.answer) ⊎ AppliesFile file before.files.contents ran.answer before.trees now.trees → Left set tree ran.answer before.trees now.trees
+      by : ((now.trees ≡ before.trees) × IsRefused ran.answer) ⊎ AppliesFile shows_output file before.files.contents ran.answer before.trees now.trees → Left set tree ran.answer before.trees now.trees
       by (inl h) = subst (Left set tree ran.answer before.trees) (sym h.0) (untouched m.held file set holds tree ran.answer before.trees has h.1)
       by (inr h) = file_left m.held file set holds tree before.files.contents m ran.answer before.trees now.trees known refl has h
 
@@ -184,6 +184,28 @@ module _ (words : List Text) (before now : Outside) (status : ℕ) (ran : Ran wo
 module _ (words : List Text) (before now : Outside) (status : ℕ) (ran : Ran words before now status) where
   pub prints_applied : PrintsApplied words before now status
   prints_applied folder file m set tree e known holds has z = gains_applied words before now status ran folder file m set tree e known holds has z
+
+  pub prints_changes : PrintsChanges words before now status
+  prints_changes folder file e z = by (subst (λ j. LeavesTreesOf j before.files.contents ran.answer before.trees now.trees) e ran.trees)
+    where
+      t : (output : Output) × (ran.answer ≡ Ok output)
+      t = text_status ran.answer status before.out now.out ran.prints (inl z)
+
+      gains : Gains (text_in t.0) before.out now.out
+      gains = gained status t.0 before.out now.out (omega (arith, z)) (subst (λ a. Prints a status before.out now.out) t.1 ran.prints)
+
+      counted : (trees later : List TreeState) → AppliesFile shows_output file before.files.contents ran.answer trees later → (changes : ℕ) × IsChangedBy trees changes later × Gains (applied_text changes) before.out now.out
+      counted [] later h = absurd h
+      counted (tree ∷ []) [] h = absurd h
+      counted (tree ∷ []) (next ∷ []) (applied, n) =
+          let k : (changes : ℕ) × shows_output t.0 (applied_text changes) × (next.counts.changes ≡ counted_on tree.counts.changes changes) = subst (λ a. IsNumbered shows_output a tree next) t.1 n in
+          (k.0, k.2, subst (λ o. Gains (text_in o) before.out now.out) k.1 gains)
+      counted (tree ∷ []) (next ∷ (more ∷ later)) h = absurd h
+      counted (tree ∷ (next ∷ trees)) later h = absurd h
+
+      by : ((now.trees ≡ before.trees) × IsRefused ran.answer) ⊎ AppliesFile shows_output file before.files.contents ran.answer before.trees now.trees → (changes : ℕ) × IsChangedBy before.trees changes now.trees × Gains (applied_text changes) before.out now.out
+      by (inl h) = absurd (subst IsRefused t.1 h.1)
+      by (inr h) = counted before.trees now.trees h
 
   pub resumes_apply : ResumesApply words before now status
   resumes_apply folder file m set start tree e known holds has way = goes_on words before now status ran folder file m set tree e known holds has start way

@@ -11,16 +11,16 @@ use Rattle.tree_port.specs.States.{IfHeld, IsCounted, NoneRefused, TreeState, Wh
 use Rattle.tree_port.specs.declared.faults.TreeFault.{TreeFault}
 use Rattle.tree_port.specs.declared.faults.TreeFault.TheVariants as tree
 use Rattle.resume_apply.specs.Faults.{of_tree}
-use Rattle.resume_apply.specs.Finishing.{Finishes, IsPaid}
+use Rattle.resume_apply.specs.Finishing.{Finishes, IsPaid, counted_on}
 use Rattle.resume_apply.specs.Preparing.{Finds, IsAsking}
 use Rattle.resume_apply.specs.Ready.{IsOnItsWay, IsReady, work}
 use Rattle.resume_apply.specs.declared.faults.ApplyFault.{ApplyFault}
 use Rattle.resume_apply.specs.declared.faults.ApplyFault.TheVariants as fault
 use Rattle.tool_words.specs.Words.{Operand}
 use Rattle.tool_words.specs.declared.job.Job.TheVariants.{Apply}
-use Rattle.treesync.specs.Apply.{Applies, AppliesSet, IsApplied, IsAppliedWhereKnown, IsApply, IsBeforeChanges, IsRightOnTree, IsSetOf, OfOnlyTree, TreeCounted, applied_text, apply_refusal}
+use Rattle.treesync.specs.Apply.{Applies, AppliesSet, IsApplied, IsAppliedWhereKnown, IsApply, IsBeforeChanges, IsNumbered, IsRightOnTree, IsSetOf, OfOnlyTree, TreeCounted, applied_text, apply_refusal}
 use Rattle.treesync.specs.Checks.{Answers, Causes, Check, FilesCounted, HasItems, IsAllowed, IsAllowedOf, IsOfJob, Then, Unless}
-use Rattle.treesync.specs.Jobs.{AppliesFile, FindsFrom, Inputs, InputsCounted, IsRefused, IsSetHeld, NoTreeFell, held_tree}
+use Rattle.treesync.specs.Jobs.{AppliesFile, FindsText, Inputs, InputsCounted, IsRefused, IsSetHeld, NoTreeFell, held_tree}
 use Rattle.treesync.specs.declared.input.TheConstants.{FILE_LIMIT}
 use Rattle.treesync.specs.declared.refusal.Refusal.{Refusal}
 use Rattle.treesync.specs.declared.refusal.Refusal.TheVariants.{InvalidArguments, OutOfMemory, CallFailed, Found}
@@ -55,24 +55,37 @@ refused_alike (Ok x) other same refused = absurd refused
 refused_alike (Err r) (Ok y) same refused = absurd same
 refused_alike (Err r) (Err s) same refused = tt
 
-file_alike : {X Y : Type 0} (file : Operand) (files : Option FileContents) (found : Result X Refusal) (other : Result Y Refusal) (trees later : List TreeState) → IsAlike found other → AppliesFile file files found trees later → AppliesFile file files other trees later
-file_alike file files found other [] later same h = absurd h
-file_alike file files found other (tree ∷ []) [] same h = absurd h
-file_alike file files found other (tree ∷ []) (now ∷ []) same (set, held, a) = (set, held, applies_alike set found other tree now same a)
-file_alike file files found other (tree ∷ []) (now ∷ (next ∷ later)) same h = absurd h
-file_alike file files found other (tree ∷ (next ∷ trees)) later same h = absurd h
+-- the other answer has each text that the first has
+abbrev pub ShowsAlike : {X Y : Type 0} → (X → List ℕ → Type 0) → (Y → List ℕ → Type 0) → Result X Refusal → Result Y Refusal → Type 0
+ShowsAlike shows other_shows (Ok x) (Ok y) = (text : List ℕ) → shows x text → other_shows y text
+ShowsAlike shows other_shows found other = ⊤
 
-pub applied_alike : {X Y : Type 0} (file : Operand) (files : Option FileContents) (found : Result X Refusal) (other : Result Y Refusal) (trees later : List TreeState) → IsAlike found other → ((later ≡ trees) × IsRefused found) ⊎ AppliesFile file files found trees later →
-    ((later ≡ trees) × IsRefused other) ⊎ AppliesFile file files other trees later
-applied_alike file files found other trees later same (inl h) = inl (h.0, refused_alike found other same h.1)
-applied_alike file files found other trees later same (inr h) = inr (file_alike file files found other trees later same h)
+number_alike : {X Y : Type 0} (shows : X → List ℕ → Type 0) (other_shows : Y → List ℕ → Type 0) (found : Result X Refusal) (other : Result Y Refusal) (before now : TreeState) →
+    IsAlike found other → ShowsAlike shows other_shows found other → IsNumbered shows found before now → IsNumbered other_shows other before now
+number_alike shows other_shows (Ok x) (Ok y) before now same texts (changes, text, counted) = (changes, texts (applied_text changes) text, counted)
+number_alike shows other_shows (Ok x) (Err s) before now same texts h = absurd same
+number_alike shows other_shows (Err r) (Ok y) before now same texts h = absurd same
+number_alike shows other_shows (Err r) (Err s) before now same texts h = tt
 
-pub applied_fell : {X : Type 0} (file : Operand) (files : Option FileContents) (answer : Result X Refusal) (trees later : List TreeState) → AppliesFile file files answer trees later → NoTreeFell trees later
-applied_fell file files answer [] later h = absurd h
-applied_fell file files answer (tree ∷ []) [] h = absurd h
-applied_fell file files answer (tree ∷ []) (now ∷ []) (set, held, a) = (a.later, tt)
-applied_fell file files answer (tree ∷ []) (now ∷ (next ∷ later)) h = absurd h
-applied_fell file files answer (tree ∷ (next ∷ trees)) later h = absurd h
+module _ {X Y : Type 0} (shows : X → List ℕ → Type 0) (other_shows : Y → List ℕ → Type 0) (file : Operand) (files : Option FileContents) (found : Result X Refusal) (other : Result Y Refusal) (same : IsAlike found other)
+    (texts : ShowsAlike shows other_shows found other) where
+  file_alike : (trees later : List TreeState) → AppliesFile shows file files found trees later → AppliesFile other_shows file files other trees later
+  file_alike [] later h = absurd h
+  file_alike (tree ∷ []) [] h = absurd h
+  file_alike (tree ∷ []) (now ∷ []) ((set, held, a), n) = ((set, held, applies_alike set found other tree now same a), number_alike shows other_shows found other tree now same texts n)
+  file_alike (tree ∷ []) (now ∷ (next ∷ later)) h = absurd h
+  file_alike (tree ∷ (next ∷ trees)) later h = absurd h
+
+  pub applied_alike : (trees later : List TreeState) → ((later ≡ trees) × IsRefused found) ⊎ AppliesFile shows file files found trees later → ((later ≡ trees) × IsRefused other) ⊎ AppliesFile other_shows file files other trees later
+  applied_alike trees later (inl h) = inl (h.0, refused_alike found other same h.1)
+  applied_alike trees later (inr h) = inr (file_alike trees later h)
+
+pub applied_fell : {X : Type 0} (shows : X → List ℕ → Type 0) (file : Operand) (files : Option FileContents) (answer : Result X Refusal) (trees later : List TreeState) → AppliesFile shows file files answer trees later → NoTreeFell trees later
+applied_fell shows file files answer [] later h = absurd h
+applied_fell shows file files answer (tree ∷ []) [] h = absurd h
+applied_fell shows file files answer (tree ∷ []) (now ∷ []) ((set, held, a), n) = (a.later, tt)
+applied_fell shows file files answer (tree ∷ []) (now ∷ (next ∷ later)) h = absurd h
+applied_fell shows file files answer (tree ∷ (next ∷ trees)) later h = absurd h
 
 -- ---- a refusal of the tree
 
@@ -110,6 +123,7 @@ module _ (word : ℕ) (set : List Change) (before now : TreeState) (ready : Wher
       paid = f.paid;
       target = from_ready set before.contents now.contents ready f.target (λ m n is t. (is, t.0));
     };
+    number = (k, e, f.number);
   }
 
   pub finished_without_text : (k : ℕ) → Finishes set (Ok k) before now → AppliesSet {X = Vec ℕ Global} HasItems word set before now (Err OutOfMemory)
@@ -123,6 +137,7 @@ module _ (word : ℕ) (set : List Change) (before now : TreeState) (ready : Wher
       paid = f.paid;
       target = from_ready set before.contents now.contents ready f.paid (λ m n is p. tt);
     };
+    number = tt;
   }
 
   stopped : (r : TreeFault) → Finishes set (Err r) before now → IsRightOnTree {X = Vec ℕ Global} HasItems word set before.contents (TreeCounted before now) (Err (apply_refusal word (of_tree r)))
@@ -151,6 +166,7 @@ module _ (word : ℕ) (set : List Change) (before now : TreeState) (ready : Wher
       paid = f.paid;
       target = from_ready set before.contents now.contents ready f.paid (λ m n is p. tt);
     };
+    number = tt;
   }
 
 -- ---- the look
@@ -197,6 +213,7 @@ module _ (word : ℕ) (set : List Change) (before now : TreeState) where
       paid = as_before (λ m n. IsPaid before.counts (work set (at m)) now.counts (work set (at n))) before.contents now.contents a.contents (λ m. omega (arith, a.changes));
       target = as_before (λ m n. ⊤) before.contents now.contents a.contents (λ m. tt);
     };
+    number = tt;
   }
 
 -- where the tree was found ready it is ready after the look
@@ -231,6 +248,10 @@ module _ (word : ℕ) (set : List Change) (k : ℕ) (before mid now : TreeState)
   quiet_before : NoneRefused mid.counts now.counts → NoneRefused before.counts now.counts
   quiet_before q = record { faults = q.faults ∙ asked.answered.faults; denials = q.denials ∙ asked.answered.denials; out_of_memory = q.out_of_memory ∙ asked.answered.out_of_memory }
 
+  number_before : (answer : Result (Vec ℕ Global) Refusal) → IsNumbered HasItems answer mid now → IsNumbered HasItems answer before now
+  number_before (Ok text) (changes, is, counted) = (changes, is, counted ∙ ap (λ n. counted_on n changes) asked.changes)
+  number_before (Err r) n = tt
+
   pub after_look : AppliesSet HasItems word set mid now result → AppliesSet HasItems word set before now result
   after_look a = record {
     right = subst (λ c. IsRightOnTree HasItems word set c (TreeCounted before now) result) asked.contents (right_more word set mid.contents (TreeCounted mid now) (TreeCounted before now) result causes a.right);
@@ -248,6 +269,7 @@ module _ (word : ℕ) (set : List Change) (k : ℕ) (before mid now : TreeState)
           (both_more mid.contents now.contents a.tree.paid (λ m n p. omega (arith, p, asked.changes)));
       target = subst (λ c. IfBoth c now.contents (λ m n. IfOk result (λ x. IsReady (at m) set × (at n ≡ after set (at m))))) asked.contents a.tree.target;
     };
+    number = number_before result a.number;
   }
 
 -- ---- the job
@@ -295,7 +317,7 @@ module _ (folder file : Operand) (before now : FilesState) where
   set_refused r result trees e a tree = then_handed_on (λ (set : List Change) cs. set ≡ cs) HasItems (IsSetOf file) (IsApplied folder.place tree) (FILE_LIMIT ∷ []) before now r result e a
 
   pub not_begun : (tree : TreeState) (result : Result (Vec ℕ Global) Refusal) → IsRefused result → Answers HasItems (IsApply folder file tree.contents) (FILE_LIMIT ∷ []) before now result →
-      FindsFrom HasItems (IsApply folder file tree.contents) (Apply folder file) (record { files = before; trees = tree ∷ [] }) (record { files = now; trees = tree ∷ [] }) result
+      FindsText (IsApply folder file tree.contents) (Apply folder file) (record { files = before; trees = tree ∷ [] }) (record { files = now; trees = tree ∷ [] }) result
   not_begun tree result refused a = record {
     later = a.later;
     quiet = a.quiet;
@@ -311,7 +333,7 @@ module _ (folder file : Operand) (before now : FilesState) where
   tree_causes tree later (TreeDenied word) h = h
 
   pub applied : (set : List Change) (tree later : TreeState) (result : Result (Vec ℕ Global) Refusal) → Answers {X = List Change} (λ set cs. set ≡ cs) (IsSetOf file) (FILE_LIMIT ∷ []) before now (Ok set) →
-      AppliesSet HasItems folder.place set tree later result → FindsFrom HasItems (IsApply folder file tree.contents) (Apply folder file) (record { files = before; trees = tree ∷ [] }) (record { files = now; trees = later ∷ [] }) result
+      AppliesSet HasItems folder.place set tree later result → FindsText (IsApply folder file tree.contents) (Apply folder file) (record { files = before; trees = tree ∷ [] }) (record { files = now; trees = later ∷ [] }) result
   applied set tree later result a b =
       let p : IsAllowed (IsSetOf file) before.contents (FilesCounted before now) (Ok set) = subst (λ cs. IsAllowed (IsSetOf file) before.contents (FilesCounted before now) (Ok cs)) (sym a.allowed.1) a.allowed.2 in
       let counted : Causes = InputsCounted (record { files = before; trees = tree ∷ [] }) (record { files = now; trees = later ∷ [] }) in
@@ -322,12 +344,12 @@ module _ (folder file : Operand) (before now : FilesState) where
         allowed = on_tree (IsSetOf file) folder.place set tree.contents (FilesCounted before now) counted before.contents result p
             (right_more folder.place set tree.contents (TreeCounted tree later) counted result (tree_causes tree later) b.right);
         of_job = of_job_on_tree folder.place set tree.contents (TreeCounted tree later) result b.right;
-        trees = inr (set, set_held file set (FilesCounted before now) before.contents p, b.tree);
+        trees = inr ((set, set_held file set (FilesCounted before now) before.contents p, b.tree), b.number);
       }
 
   -- the same, of the only tree of a list
   pub applied_to_only : (set : List Change) (trees later : List TreeState) (result : Result (Vec ℕ Global) Refusal) → Answers {X = List Change} (λ set cs. set ≡ cs) (IsSetOf file) (FILE_LIMIT ∷ []) before now (Ok set) →
-      OfOnlyTree trees later (λ b n. AppliesSet HasItems folder.place set b n result) → FindsFrom HasItems (IsApply folder file (held_tree trees)) (Apply folder file) (record { files = before; trees = trees }) (record { files = now; trees = later }) result
+      OfOnlyTree trees later (λ b n. AppliesSet HasItems folder.place set b n result) → FindsText (IsApply folder file (held_tree trees)) (Apply folder file) (record { files = before; trees = trees }) (record { files = now; trees = later }) result
   applied_to_only set [] later result a h = absurd h
   applied_to_only set (tree ∷ []) [] result a h = absurd h
   applied_to_only set (tree ∷ []) (next ∷ []) result a h = applied set tree next result a h
@@ -336,7 +358,7 @@ module _ (folder file : Operand) (before now : FilesState) where
 
   -- SET was refused, and the trees were not asked
   pub not_begun_on : (trees : List TreeState) (r : Refusal) (result : Result (Vec ℕ Global) Refusal) → length trees ≡ 1 → IsErrAnd result (λ e. e ≡ r) → Answers {X = List Change} (λ set cs. set ≡ cs) (IsSetOf file) (FILE_LIMIT ∷ []) before now (Err r) →
-      FindsFrom HasItems (IsApply folder file (held_tree trees)) (Apply folder file) (record { files = before; trees = trees }) (record { files = now; trees = trees }) result
+      FindsText (IsApply folder file (held_tree trees)) (Apply folder file) (record { files = before; trees = trees }) (record { files = now; trees = trees }) result
   not_begun_on [] r result one e a = absurd (omega (arith, one))
   not_begun_on (tree ∷ []) r result one e a = not_begun tree result (is_refused result (λ e. e ≡ r) e) (set_refused r result (tree ∷ []) e a tree.contents)
   not_begun_on (tree ∷ (more ∷ trees)) r result one e a = absurd (omega (arith, one))

@@ -187,7 +187,7 @@ printed_of held prefs files text (inr (rules, p, inr (reads, l, inr (joined, inr
 
 -- ---- the answer of a run
 
-gained : (status : ℕ) (output : Output) (a b : SinkState) → status ≤ 1 → Prints (Ok output) status a b → Gains (text_in output) a b
+pub gained : (status : ℕ) (output : Output) (a b : SinkState) → status ≤ 1 → Prints (Ok output) status a b → Gains (text_in output) a b
 gained status output a b low p = both_more a.contents b.contents p.1 (λ m k w. w.whole low)
 
 -- what a run printed that ended with the status of a whole output, over files that are known

@@ -209,13 +209,13 @@ pub record HasWritten (script : Script) (result : Result ℕ RecordFault) (m : S
   pub failed : IsErrOf result fault.TreeFailed → IsCountedByFirst (λ c. c.faults) trees later
   pub write : IsErrOf result fault.WriteFault → FaultCounted before now
 
-wrote_on : (script : Script) (result : Result ℕ RecordFault) (m : Store) (x : SinkContents) (before now : SinkState) (trees later : List TreeState) → held_tree trees ≡ Some m → before.contents ≡ Some x →
+written_on : (script : Script) (result : Result ℕ RecordFault) (m : Store) (x : SinkContents) (before now : SinkState) (trees later : List TreeState) → held_tree trees ≡ Some m → before.contents ≡ Some x →
     OfOnlyTree trees later (RecordsOnTree script result before now) → HasWritten script result m x before now trees later
-wrote_on script result m x before now [] later has known h = absurd h
-wrote_on script result m x before now (tree ∷ []) [] has known h = absurd h
-wrote_on script result m x before now (tree ∷ []) (next ∷ (more ∷ later)) has known h = absurd h
-wrote_on script result m x before now (tree ∷ (more ∷ trees)) later has known h = absurd h
-wrote_on script result m x before now (tree ∷ []) (next ∷ []) has known h =
+written_on script result m x before now [] later has known h = absurd h
+written_on script result m x before now (tree ∷ []) [] has known h = absurd h
+written_on script result m x before now (tree ∷ []) (next ∷ (more ∷ later)) has known h = absurd h
+written_on script result m x before now (tree ∷ (more ∷ trees)) later has known h = absurd h
+written_on script result m x before now (tree ∷ []) (next ∷ []) has known h =
     let out = both_known before.contents now.contents (λ v w. IfBoth tree.contents next.contents (RecordsScript script.0 script.1 result v w)) x known h.recorded in
     let held = both_known tree.contents next.contents (RecordsScript script.0 script.1 result x out.0) m has out.2 in
     record { tree = held.0; held = held.1; written = out.0; known = out.1; records = held.2; failed = h.cause.failed; write = h.cause.write }
@@ -286,7 +286,7 @@ module _ (folder file : Operand) (before now : Outside) (status : ℕ) (script :
   }
 
 module _ (words : List Text) (before now : Outside) (status : ℕ) (runs : Runs words before now status) (folder file : Operand) (m : FileContents) (script : Script) (tree : Store) (x : SinkContents)
-    (e : job_of words ≡ Some (Record folder file)) (known : before.files.contents ≡ Some m) (holds : HoldsScript m.held file script) (has : held_tree before.trees ≡ Some tree) (wrote : before.out.contents ≡ Some x) where
+    (e : job_of words ≡ Some (Record folder file)) (known : before.files.contents ≡ Some m) (holds : HoldsScript m.held file script) (has : held_tree before.trees ≡ Some tree) (has_out : before.out.contents ≡ Some x) where
   ran : RanRecording folder file words before now status
   ran = subst (λ j. RunsJob j words before now status) e runs.does
 
@@ -313,12 +313,12 @@ module _ (words : List Text) (before now : Outside) (status : ℕ) (runs : Runs 
   held_by (Ok read) job right does =
       let same : read ≡ script = ok_is (right_script (Ok read) right) in
       carried_held folder file before now status script tree x ops does.0 does.2
-      (wrote_on script does.0 tree x before.out now.out before.trees now.trees has wrote (subst (λ s. OfOnlyTree before.trees now.trees (RecordsOnTree s does.0 before.out now.out)) same does.1))
+      (written_on script does.0 tree x before.out now.out before.trees now.trees has has_out (subst (λ s. OfOnlyTree before.trees now.trees (RecordsOnTree s does.0 before.out now.out)) same does.1))
   held_by (Err InvalidArguments) job right does = absurd job
   held_by (Err OutOfMemory) job right does =
-      unread_held folder file before now status script tree x ops 16 does.2 (λ z. omega (arith, z)) (λ z. omega (arith, z)) (λ z. omega (arith, z)) does.0 does.1 has wrote (λ tree files out. inr does.2)
+      unread_held folder file before now status script tree x ops 16 does.2 (λ z. omega (arith, z)) (λ z. omega (arith, z)) (λ z. omega (arith, z)) does.0 does.1 has has_out (λ tree files out. inr does.2)
   held_by (Err (CallFailed (ReadFailed word))) job right does =
-      unread_held folder file before now status script tree x ops 3 does.2 (λ z. omega (arith, z)) (λ z. omega (arith, z)) (λ z. omega (arith, z)) does.0 does.1 has wrote (λ tree files out. absurd (counted right files))
+      unread_held folder file before now status script tree x ops 3 does.2 (λ z. omega (arith, z)) (λ z. omega (arith, z)) (λ z. omega (arith, z)) does.0 does.1 has has_out (λ tree files out. absurd (counted right files))
     where
       counted : IsRight (IsScript file) m.held (FilesCounted before.files now.files) (Err (CallFailed (ReadFailed word))) → (FaultCounted before.files now.files → ⊥) → ⊥
       counted (inl h) quiet = not_read (CallFailed (ReadFailed word)) h
@@ -333,4 +333,4 @@ module _ (words : List Text) (before now : Outside) (status : ℕ) (runs : Runs 
   records_held = held_by ran.script ran.of_job (read_so before.files.contents ran.script known ran.allowed) ran.carries_out
 
 pub prints_recorded : (words : List Text) (before now : Outside) (status : ℕ) → Runs words before now status → PrintsRecorded words before now status
-prints_recorded words before now status runs folder file m script tree x e known holds has wrote = records_held words before now status runs folder file m script tree x e known holds has wrote
+prints_recorded words before now status runs folder file m script tree x e known holds has has_out = records_held words before now status runs folder file m script tree x e known holds has has_out

@@ -10,14 +10,14 @@ use Rattle.tool_words.specs.declared.job.WordFault.{WordFault}
 use Rattle.tool_words.specs.declared.job.WordFault.TheVariants as word
 use Rattle.treesync.specs.Completeness.{CompletesJob, IsMet}
 use Rattle.treesync.specs.Ends.{Prints, Says, line_of}
-use Rattle.treesync.specs.Headline.{KeepsUnready, PrintsApplied, PrintsMerger, PrintsRules, PrintsSealed, PrintsSteered, PrintsTransition, ResumesApply, TellsClashes}
+use Rattle.treesync.specs.Headline.{KeepsUnready, PrintsApplied, PrintsChanges, PrintsMerger, PrintsRules, PrintsSealed, PrintsSteered, PrintsTransition, ResumesApply, TellsClashes}
 use Rattle.treesync.specs.Jobs.{Inputs, Keeps, Outside, Ran, inputs_of}
 use Rattle.treesync.specs.Messages.{message_of}
 use Rattle.treesync.specs.Runs.{EndsRight, IsAnswered, Runs, RunsJob, words_refusal}
 use Rattle.treesync.specs.SetHeadline.{PrintsCatchup, PrintsReasons, PrintsRebase, PrintsUndo}
 use Rattle.treesync.specs.declared.refusal.Refusal.{Refusal}
 use Rattle.treesync.specs.declared.refusal.Refusal.TheVariants.{OutOfMemory}
-use Rattle.treesync.proofs.ApplyHeadline.{keeps_unready, prints_applied, resumes_apply}
+use Rattle.treesync.proofs.ApplyHeadline.{keeps_unready, prints_applied, prints_changes, resumes_apply}
 use Rattle.treesync.proofs.Completing.{completes_job}
 use Rattle.treesync.proofs.ConflictHeadline.{says_clashes}
 use Rattle.treesync.proofs.HeadlineLemmas.{prints_merger, prints_steered}
@@ -100,6 +100,9 @@ module _ (words : List Text) (before now : Outside) (status : ℕ) where
 
   pub runs_applied : Runs words before now status → PrintsApplied words before now status
   runs_applied runs folder file m set tree e = prints_applied words before now status (answered (Apply folder file) e tt runs) folder file m set tree e
+
+  pub runs_changes : Runs words before now status → PrintsChanges words before now status
+  runs_changes runs folder file e = prints_changes words before now status (answered (Apply folder file) e tt runs) folder file e
 
   pub runs_on : Runs words before now status → ResumesApply words before now status
   runs_on runs folder file m set start tree e = resumes_apply words before now status (answered (Apply folder file) e tt runs) folder file m set start tree e

@@ -14,7 +14,7 @@ use Rattle.tool_words.specs.declared.job.Job.TheVariants.{Seal}
 use Rattle.treesync.specs.Apply.{OfOnlyTree, TreeCounted}
 use Rattle.treesync.specs.Checks.{Answers, Causes, Check, FilesCounted, HasItems, IsAllowed, IsAllowedOf, IsOfJob, Then, Unless}
 use Rattle.treesync.specs.Files.{IsFile}
-use Rattle.treesync.specs.Jobs.{FindsFrom, InputsCounted, NoTreeFell, held_tree}
+use Rattle.treesync.specs.Jobs.{FindsText, InputsCounted, NoTreeFell, held_tree}
 use Rattle.treesync.specs.Seal.{IsRightSeal, IsSeal, IsSealedOver, IsSealing, LooksAt, LooksAtOnly, Seals, seal_refusal}
 use Rattle.treesync.specs.declared.input.TheConstants.{FILE_LIMIT}
 use Rattle.treesync.specs.declared.refusal.Refusal.{Refusal}
@@ -125,7 +125,7 @@ on_text P folder word tree text counted counted' (Some m) (Err (Found finding)) 
 
 module _ (folder file : Operand) (before now : FilesState) where
   abbrev FindsSeal : List TreeState → List TreeState → Result (Vec ℕ Global) Refusal → Type 0
-  FindsSeal trees later result = FindsFrom HasItems (IsSeal folder file (held_tree trees)) (Seal folder file) (record { files = before; trees = trees }) (record { files = now; trees = later }) result
+  FindsSeal trees later result = FindsText (IsSeal folder file (held_tree trees)) (Seal folder file) (record { files = before; trees = trees }) (record { files = now; trees = later }) result
 
   abbrev ReadsText : Result (Vec ℕ Global) Refusal → Type 0
   ReadsText found = Answers HasItems (IsFile FILE_LIMIT file.place file.text) (FILE_LIMIT ∷ []) before now found

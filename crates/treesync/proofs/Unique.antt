@@ -74,8 +74,6 @@ use Rattle.treesync.specs.declared.logs.TheConstants.{FULL_ALLOWANCE}
 use Rattle.treesync.specs.Jobs.{IsAnswer, IsAnswerOf, IsJobAnswer}
 use Rattle.treesync.specs.Replay.{IsAfter, IsRefusedAt, IsReplay}
 use Rattle.treesync.specs.declared.refusal.Refusal.{Refusal}
-use Rattle.treesync.specs.declared.refusal.Refusal.TheVariants.{Found}
-use Rattle.treesync.specs.declared.refusal.Finding.TheVariants.{Blocked, Diverged, NoCommonTree, NoFollow, NoTree, NotTaken}
 use Rattle.treesync.specs.Apply.{IsApplied, IsAppliedTo, IsApply, IsSetOf}
 use Rattle.resume_apply.specs.Ready.{IsReady, is_ready_value}
 use Rattle.resume_apply.specs.Preparing.{IsBlocked, IsFirstBlocked, first_diverged}
@@ -126,7 +124,7 @@ net_one : (word : ℕ) (log : ReadLog) → IsOne (Judged (IsNet word log))
 net_one word log held (Ok one) (Ok other) p q = ap Ok (p.1 ∙ sym q.1)
 net_one word log held (Ok one) (Err r) p q = absurd (q.2.3 (taken_prefix q.0 log.commands p.0))
 net_one word log held (Err r) (Ok other) p q = absurd (p.2.3 (taken_prefix p.0 log.commands q.0))
-net_one word log held (Err r) (Err s) p q = ap Err (p.1 ∙ ap (λ n. Found (NoTree word n)) same ∙ sym q.1)
+net_one word log held (Err r) (Err s) p q = cc (p.1, q.1, same)
   where
     same : p.0 ≡ q.0
     same = first_failing (λ k. IsTaken (take k log.commands)) (taken_shorter log.commands) p.0 q.0 p.2.2 p.2.3 q.2.2 q.2.3
@@ -159,7 +157,7 @@ after_one : (word : ℕ) (snapshot : Version × List Row) (log : ReadLog) → Is
 after_one word (version, rows) log held (Ok one) (Ok other) p q = ap Ok (p.1 ∙ sym q.1)
 after_one word (version, rows) log held (Ok one) (Err r) p q = absurd (refused_there (store_of rows) log.commands q.0 q.2 (takes_prefix (at (store_of rows)) q.0 log.commands p.0))
 after_one word (version, rows) log held (Err r) (Ok other) p q = absurd (refused_there (store_of rows) log.commands p.0 p.2 (takes_prefix (at (store_of rows)) p.0 log.commands q.0))
-after_one word (version, rows) log held (Err r) (Err s) p q = ap Err (p.1 ∙ ap (λ n. Found (NotTaken word n)) same ∙ sym q.1)
+after_one word (version, rows) log held (Err r) (Err s) p q = cc (p.1, q.1, same)
   where
     same : p.0 ≡ q.0
     same = first_failing (λ k. Takes (at (store_of rows)) (take k log.commands)) (takes_shorter (at (store_of rows)) log.commands) p.0 q.0
@@ -203,7 +201,7 @@ untaken_not (file ∷ files) (read ∷ reads) r (inr h) taken = untaken_not file
 untaken_once : (files : List Operand) (reads : List ReadLog) (r s : Refusal) → IsFirstUntaken files reads r → IsFirstUntaken files reads s → r ≡ s
 untaken_once [] reads r s p q = absurd p
 untaken_once (file ∷ files) [] r s p q = absurd p
-untaken_once (file ∷ files) (read ∷ reads) r s (inl p) (inl q) = p.1 ∙ ap (λ n. Found (NoTree file.place n)) (broken_once read.commands p.0 q.0 p.2 q.2) ∙ sym q.1
+untaken_once (file ∷ files) (read ∷ reads) r s (inl p) (inl q) = let same = broken_once read.commands p.0 q.0 p.2 q.2 in cc (p.1, q.1, same)
 untaken_once (file ∷ files) (read ∷ reads) r s (inl p) (inr q) = absurd (not_broken read.commands p.0 p.2 q.0)
 untaken_once (file ∷ files) (read ∷ reads) r s (inr p) (inl q) = absurd (not_broken read.commands q.0 q.2 p.0)
 untaken_once (file ∷ files) (read ∷ reads) r s (inr p) (inr q) = untaken_once files reads r s p.1 q.1
@@ -238,7 +236,7 @@ all_taken_one : (reads : List ReadLog) → OneOf (AllTaken reads)
 all_taken_one reads (Ok one) (Ok other) p q = ap Ok (p.0 ∙ sym q.0)
 all_taken_one reads (Ok one) (Err r) p q = absurd (q.4.disagreement.none p.1)
 all_taken_one reads (Err r) (Ok other) p q = absurd (p.4.disagreement.none q.1)
-all_taken_one reads (Err r) (Err s) p q = ap Err (p.3 ∙ (λ i. Found (NoCommonTree (first i) (second i) (node i))) ∙ sym q.3)
+all_taken_one reads (Err r) (Err s) p q = cc (p.3, q.3, first, second, node)
   where
     pair : (p.0 - 1 ≡ q.0 - 1) × (p.1 - 1 ≡ q.1 - 1)
     pair = one_pair (commands_of reads) (p.0 - 1) (p.1 - 1) (q.0 - 1) (q.1 - 1) p.2 q.2 p.4.disagreement.disagreement q.4.disagreement.disagreement
@@ -323,7 +321,7 @@ net_set_one : (word : ℕ) (read : ReadLog) → OneOf (IsNetSet word read)
 net_set_one word read (Ok one) (Ok other) p q = ap Ok (p.1 ∙ sym q.1)
 net_set_one word read (Ok one) (Err r) p q = absurd (not_broken read.commands q.0 q.2 p.0)
 net_set_one word read (Err r) (Ok other) p q = absurd (not_broken read.commands p.0 p.2 q.0)
-net_set_one word read (Err r) (Err s) p q = ap Err (p.1 ∙ ap (λ n. Found (NoTree word n)) (broken_once read.commands p.0 q.0 p.2 q.2) ∙ sym q.1)
+net_set_one word read (Err r) (Err s) p q = let same = broken_once read.commands p.0 q.0 p.2 q.2 in cc (p.1, q.1, same)
 
 -- a verdict means one refusal, and a merger none
 one_refusal : (word : ℕ) (v : Verdict) (r s : Refusal) → RefusesBy word v r → RefusesBy word v s → r ≡ s
@@ -453,10 +451,10 @@ applied_one word set m one (Err r) (Ok other) (inr p) q = absurd (not_blocked q.
   where
     not_blocked : IsReady (at m) set → IsBlocked set (at m) p.0 → ⊥
     not_blocked ready b = let dir = ready.tree b.above p.0 b.parent_is b.full in absurd (cc (dir, b.no_dir))
-applied_one word set m one (Err r) (Err s) (inl p) (inl q) = let same : p.0 ≡ q.0 = cc (p.2, q.2) in ap Err (p.1 ∙ ap (λ x. Found (Diverged word x)) same ∙ sym q.1)
+applied_one word set m one (Err r) (Err s) (inl p) (inl q) = let same : p.0 ≡ q.0 = cc (p.2, q.2) in cc (p.1, q.1, same)
 applied_one word set m one (Err r) (Err s) (inl p) (inr q) = absurd (cc (p.2, q.2))
 applied_one word set m one (Err r) (Err s) (inr p) (inl q) = absurd (cc (p.2, q.2))
-applied_one word set m one (Err r) (Err s) (inr p) (inr q) = ap Err (p.1 ∙ ap (λ x. Found (Blocked word x)) (one_blocked set (at m) p.0 q.0 p.3 q.3) ∙ sym q.1)
+applied_one word set m one (Err r) (Err s) (inr p) (inr q) = let same = one_blocked set (at m) p.0 q.0 p.3 q.3 in cc (p.1, q.1, same)
 
 pub apply_one : (folder file : Operand) (m : Store) → IsOne (IsApply folder file (Some m))
 apply_one folder file m =
@@ -512,7 +510,7 @@ composed_one : (files : List Operand) (sets : List (List Change)) → OneOf (IsC
 composed_one files sets (Ok one) (Ok other) p q = ap Ok (p.1 ∙ sym q.1)
 composed_one files sets (Ok one) (Err r) p q = absurd (stop_law sets q.number q.node q.stops p.0)
 composed_one files sets (Err r) (Ok other) p q = absurd (stop_law sets p.number p.node p.stops q.0)
-composed_one files sets (Err r) (Err s) p q = ap Err (p.refusal ∙ (λ i. Found (NoFollow (word i) (same.1 i))) ∙ sym q.refusal)
+composed_one files sets (Err r) (Err s) p q = let node = same.1 in cc (p.refusal, q.refusal, word, node)
   where
     same : (p.number ≡ q.number) × (p.node ≡ q.node)
     same = stop_once_law sets p.number q.number p.node q.node p.stops q.stops
@@ -535,7 +533,7 @@ taken_work_one : (word : ℕ) (work : ReadLog) → OneOf (IsTakenWork word work)
 taken_work_one word work (Ok one) (Ok other) p q = ap Ok (p.0 ∙ sym q.0)
 taken_work_one word work (Ok one) (Err r) p q = absurd (not_broken work.commands q.0 q.2 p.1)
 taken_work_one word work (Err r) (Ok other) p q = absurd (not_broken work.commands p.0 p.2 q.1)
-taken_work_one word work (Err r) (Err s) p q = ap Err (p.1 ∙ ap (λ n. Found (NoTree word n)) (broken_once work.commands p.0 q.0 p.2 q.2) ∙ sym q.1)
+taken_work_one word work (Err r) (Err s) p q = let same = broken_once work.commands p.0 q.0 p.2 q.2 in cc (p.1, q.1, same)
 
 module _ (side : Side) (word : ℕ) (rules : List Rule) (work_word : ℕ) (files : List Operand) where
   rebased_one : (work : ReadLog) (reads : List ReadLog) → OneOf (IsRebased side word rules work_word files work reads)

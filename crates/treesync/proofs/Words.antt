@@ -15,13 +15,13 @@ use Rattle.tree_port.specs.States.{TreeState}
 use Rattle.tool_words.specs.Jobs.{job_of}
 use Rattle.tool_words.specs.Trees.{asked_folders, folder_places, job_folders}
 use Rattle.tool_words.specs.Words.{Operand, Text, places_of}
-use Rattle.treesync.specs.Jobs.{Finds, FindsFrom, FindsJob, Inputs, InputsCounted, IsAnswerOf, IsJobAnswer, LeavesTrees, LeavesTreesOf, NoTreeFell, held_tree, limits_of, limits_of_words}
+use Rattle.treesync.specs.Jobs.{Finds, FindsFrom, FindsJob, FindsText, Inputs, InputsCounted, IsAnswerOf, IsJobAnswer, LeavesTrees, LeavesTreesOf, NoTreeFell, held_tree, limits_of, limits_of_words, shows_output, shows_text}
 use Rattle.treesync.specs.Messages.{failure_status, finding_status}
 use Rattle.treesync.specs.Outputs.{AsText, Output, WholeText, status_in}
 use Rattle.treesync.specs.declared.answer.Answer.{Answer}
 use Rattle.treesync.specs.declared.answer.Answer.TheVariants.{Text as TextAnswer}
 use Rattle.treesync.proofs.OutputLemmas.{Three, low_status, text_allowed, three, whole_status}
-use Rattle.treesync.proofs.Applying.{IsAlike, applied_alike, applied_fell}
+use Rattle.treesync.proofs.Applying.{IsAlike, ShowsAlike, applied_alike, applied_fell}
 use Rattle.treesync.proofs.Sealing.{looked_alike, looked_fell}
 use Rattle.treesync.proofs.CheckLemmas.{allowed_more, memory_allowed, reads_nothing}
 use Rattle.treesync.specs.declared.refusal.Refusal.{Refusal}
@@ -51,7 +51,7 @@ pub no_job : (words : Option Job) (state : Inputs) → words ≡ None → FindsO
 no_job words state e = subst (λ w. FindsOutput w state state (Err InvalidArguments)) (sym e) (inl refl, refl)
 
 -- the trees of a job stay where it is refused, and those of a job that has none
-still_refused : (job : Job) (files : Option FileContents) (r : Refusal) (trees : List TreeState) → LeavesTrees {X = Answer} job files (Err r) trees trees
+still_refused : (job : Job) (files : Option FileContents) (r : Refusal) (trees : List TreeState) → LeavesTrees {X = Answer} (shows_text StandsForOutput) job files (Err r) trees trees
 still_refused (Apply folder file) files r trees = inl (refl, tt)
 still_refused (Seal folder file) files r trees = inl refl
 still_refused (Record folder file) files r trees = refl
@@ -85,7 +85,7 @@ no_memory (Some job) state = memory_found job state
 
 -- ---- a job without trees
 
-stays : (job : Job) (files : Option FileContents) (found : Outcome) (trees : List TreeState) → job_folders job ≡ [] → LeavesTrees job files found trees trees
+stays : (job : Job) (files : Option FileContents) (found : Outcome) (trees : List TreeState) → job_folders job ≡ [] → LeavesTrees (shows_text StandsForOutput) job files found trees trees
 stays (Apply folder file) files found trees empty = absurd (cc)
 stays (Seal folder file) files found trees empty = absurd (cc)
 stays (Record folder file) files found trees empty = absurd (cc)
@@ -147,31 +147,36 @@ found_allowed None before now found f = none_allowed (InputsCounted before now) 
 found_allowed (Some job) before now found f = seen_allowed (IsJobAnswer job (held_tree before.trees)) before.files.contents (InputsCounted before now) found f.allowed
 
 -- what becomes of the trees does not depend on the value of an answer
-pub trees_alike : {X Y : Type 0} (job : Job) (files : Option FileContents) (found : Result X Refusal) (other : Result Y Refusal) (trees later : List TreeState) → IsAlike found other → LeavesTrees job files found trees later → LeavesTrees job files other trees later
-trees_alike (Apply folder file) files found other trees later same h = applied_alike file files found other trees later same h
-trees_alike (Seal folder file) files found other trees later same h = looked_alike found other trees later same h
-trees_alike (Record folder file) files found other trees later same h = h
-trees_alike Help files found other trees later same h = h
-trees_alike (Replay snap log) files found other trees later same h = h
-trees_alike (Canon log) files found other trees later same h = h
-trees_alike (Conflicts logs) files found other trees later same h = h
-trees_alike (Merge prefs logs) files found other trees later same h = h
-trees_alike (Transition number prefs logs) files found other trees later same h = h
-trees_alike (Steer set logs) files found other trees later same h = h
-trees_alike (Drill seed logs steps) files found other trees later same h = h
-trees_alike (Sync prefs folders logs) files found other trees later same h = h
-trees_alike (Explain prefs logs) files found other trees later same h = h
-trees_alike (Undo set) files found other trees later same h = h
-trees_alike (Catchup sets) files found other trees later same h = h
-trees_alike (Rebase side prefs work sets) files found other trees later same h = h
+pub trees_alike : {X Y : Type 0} (shows : X → List ℕ → Type 0) (other_shows : Y → List ℕ → Type 0) (job : Job) (files : Option FileContents) (found : Result X Refusal) (other : Result Y Refusal) (trees later : List TreeState) →
+    IsAlike found other → ShowsAlike shows other_shows found other → LeavesTrees shows job files found trees later → LeavesTrees other_shows job files other trees later
+trees_alike shows other_shows (Apply folder file) files found other trees later same texts h = applied_alike shows other_shows file files found other same texts trees later h
+trees_alike shows other_shows (Seal folder file) files found other trees later same texts h = looked_alike found other trees later same h
+trees_alike shows other_shows (Record folder file) files found other trees later same texts h = h
+trees_alike shows other_shows Help files found other trees later same texts h = h
+trees_alike shows other_shows (Replay snap log) files found other trees later same texts h = h
+trees_alike shows other_shows (Canon log) files found other trees later same texts h = h
+trees_alike shows other_shows (Conflicts logs) files found other trees later same texts h = h
+trees_alike shows other_shows (Merge prefs logs) files found other trees later same texts h = h
+trees_alike shows other_shows (Transition number prefs logs) files found other trees later same texts h = h
+trees_alike shows other_shows (Steer set logs) files found other trees later same texts h = h
+trees_alike shows other_shows (Drill seed logs steps) files found other trees later same texts h = h
+trees_alike shows other_shows (Sync prefs folders logs) files found other trees later same texts h = h
+trees_alike shows other_shows (Explain prefs logs) files found other trees later same texts h = h
+trees_alike shows other_shows (Undo set) files found other trees later same texts h = h
+trees_alike shows other_shows (Catchup sets) files found other trees later same texts h = h
+trees_alike shows other_shows (Rebase side prefs work sets) files found other trees later same texts h = h
 
 seen_alike : (found : Outcome) → IsAlike found (seen_output found)
 seen_alike (Ok answer) = tt
 seen_alike (Err r) = refl
 
+seen_shows : (found : Outcome) → ShowsAlike (shows_text StandsForOutput) shows_output found (seen_output found)
+seen_shows (Ok answer) = λ text h. h
+seen_shows (Err r) = tt
+
 pub found_trees : (words : Option Job) (before now : Inputs) (found : Outcome) → FindsOutput words before now found → LeavesTreesOf words before.files.contents (seen_output found) before.trees now.trees
 found_trees None before now found f = ap (λ s. s.trees) f.1
-found_trees (Some job) before now found f = trees_alike job before.files.contents found (seen_output found) before.trees now.trees (seen_alike found) f.trees
+found_trees (Some job) before now found f = trees_alike (shows_text StandsForOutput) shows_output job before.files.contents found (seen_output found) before.trees now.trees (seen_alike found) (seen_shows found) f.trees
 
 none_fell : (trees : List TreeState) → NoTreeFell trees trees
 none_fell [] = tt
@@ -183,7 +188,7 @@ same_fell trees later e = subst (NoTreeFell trees) (sym e) (none_fell trees)
 pub trees_later : (words : Option Job) (files : Option FileContents) (answer : Result Output Refusal) (trees later : List TreeState) → LeavesTreesOf words files answer trees later → NoTreeFell trees later
 trees_later None files answer trees later h = same_fell trees later h
 trees_later (Some (Apply folder file)) files answer trees later (inl h) = same_fell trees later h.0
-trees_later (Some (Apply folder file)) files answer trees later (inr h) = applied_fell file files answer trees later h
+trees_later (Some (Apply folder file)) files answer trees later (inr h) = applied_fell shows_output file files answer trees later h
 trees_later (Some (Seal folder file)) files answer trees later (inl h) = same_fell trees later h
 trees_later (Some (Seal folder file)) files answer trees later (inr h) = looked_fell answer trees later h
 trees_later (Some (Record folder file)) files answer trees later h = same_fell trees later h
@@ -289,7 +294,7 @@ refusal_allowed P counted (Some m) (CallFailed failure) (inl h) = inl (inl (Call
 refusal_allowed P counted (Some m) (CallFailed failure) (inr h) = inr (h.0, inl (CallFailed failure, h.1, refl))
 refusal_allowed P counted (Some m) (Found finding) h = inl (Found finding, h, refl)
 
-text_found : (P : Check (List ℕ)) (job : Job) (before now : Inputs) (found : Result (Vec ℕ Global) Refusal) → FindsFrom HasItems P job before now found → FindsFrom StandsForOutput (AsText P) job before now (of_text found)
+text_found : (P : Check (List ℕ)) (job : Job) (before now : Inputs) (found : Result (Vec ℕ Global) Refusal) → FindsText P job before now found → FindsFrom StandsForOutput (shows_text StandsForOutput) (AsText P) job before now (of_text found)
 text_found P job before now (Ok text) f = record {
   later = f.later;
   quiet = f.quiet;
@@ -300,7 +305,7 @@ text_found P job before now (Ok text) f = record {
     text_allowed P (InputsCounted before now) before.files.contents text.items (subst (λ t. IsAllowed P before.files.contents (InputsCounted before now) (Ok t)) (sym f.allowed.1) f.allowed.2),
   );
   of_job = tt;
-  trees = trees_alike job before.files.contents (Ok text) (Ok (TextAnswer text)) before.trees now.trees tt f.trees;
+  trees = trees_alike HasItems (shows_text StandsForOutput) job before.files.contents (Ok text) (Ok (TextAnswer text)) before.trees now.trees tt (λ t e. ap WholeText e) f.trees;
 }
 text_found P job before now (Err r) f = record {
   later = f.later;
@@ -308,12 +313,12 @@ text_found P job before now (Err r) f = record {
   reads = f.reads;
   allowed = refusal_allowed P (InputsCounted before now) before.files.contents r f.allowed;
   of_job = of_job_alike (Vec ℕ Global) Answer r f.of_job;
-  trees = trees_alike job before.files.contents (Err r) (Err r) before.trees now.trees refl f.trees;
+  trees = trees_alike {X = Vec ℕ Global} {Y = Answer} HasItems (shows_text StandsForOutput) job before.files.contents (Err r) (Err r) before.trees now.trees refl tt f.trees;
 }
 
 -- the answer of a command that makes its text whole
-pub found_text_of : (P : Check (List ℕ)) (job : Job) (before now : Inputs) (found : Result (Vec ℕ Global) Refusal) (result : Outcome) → result ≡ of_text found → FindsFrom HasItems P job before now found → FindsFrom StandsForOutput (AsText P) job before now result
-found_text_of P job before now found result e f = subst (FindsFrom StandsForOutput (AsText P) job before now) (sym e) (text_found P job before now found f)
+pub found_text_of : (P : Check (List ℕ)) (job : Job) (before now : Inputs) (found : Result (Vec ℕ Global) Refusal) (result : Outcome) → result ≡ of_text found → FindsText P job before now found → FindsFrom StandsForOutput (shows_text StandsForOutput) (AsText P) job before now result
+found_text_of P job before now found result e f = subst (FindsFrom StandsForOutput (shows_text StandsForOutput) (AsText P) job before now) (sym e) (text_found P job before now found f)
 
 -- a job that names no folder has no trees
 pub no_trees_of : (words : List Text) (trees : List TreeState) → length trees ≡ length (folder_places words) → (job : Job) → job_of words ≡ Some job → job_folders job ≡ [] → trees ≡ []
@@ -343,12 +348,12 @@ no_folders (Rebase side prefs work sets) answered seal other = refl
 
 -- the answer of an application
 pub found_apply : (folder file : Operand) (job : Job) (before now : Inputs) (found : Result (Vec ℕ Global) Refusal) (result : Outcome) → job ≡ Apply folder file → result ≡ of_text found →
-    FindsFrom HasItems (IsApply folder file (held_tree before.trees)) (Apply folder file) before now found → FindsJob StandsForOutput job before now result
+    FindsText (IsApply folder file (held_tree before.trees)) (Apply folder file) before now found → FindsJob StandsForOutput job before now result
 found_apply folder file job before now found result is same f =
     subst (λ j. FindsJob StandsForOutput j before now result) (sym is) (found_text_of (IsApply folder file (held_tree before.trees)) (Apply folder file) before now found result same f)
 
 -- and of a sealing
 pub found_seal : (folder file : Operand) (job : Job) (before now : Inputs) (found : Result (Vec ℕ Global) Refusal) (result : Outcome) → job ≡ Seal folder file → result ≡ of_text found →
-    FindsFrom HasItems (IsSeal folder file (held_tree before.trees)) (Seal folder file) before now found → FindsJob StandsForOutput job before now result
+    FindsText (IsSeal folder file (held_tree before.trees)) (Seal folder file) before now found → FindsJob StandsForOutput job before now result
 found_seal folder file job before now found result is same f =
     subst (λ j. FindsJob StandsForOutput j before now result) (sym is) (found_text_of (IsSeal folder file (held_tree before.trees)) (Seal folder file) before now found result same f)

@@ -6,7 +6,7 @@ use Rattle.sync_command.specs.Maps.{Store, at}
 use Rattle.sync_command.specs.Trees.{after}
 use Rattle.tree_port.specs.States.{IfTreeKnown, IsCounted, NoneFell, NoneRefused, TreeState}
 use Rattle.resume_apply.specs.Ready.{IsOnItsWay, IsReady, work}
-use Rattle.resume_apply.specs.Finishing.{IsPaid}
+use Rattle.resume_apply.specs.Finishing.{IsPaid, counted_on}
 use Rattle.resume_apply.specs.Preparing.{IsFirstBlocked, first_diverged}
 use Rattle.resume_apply.specs.declared.faults.ApplyFault.{ApplyFault}
 use Rattle.resume_apply.specs.declared.faults.ApplyFault.TheVariants as fault
@@ -84,6 +84,11 @@ pub record Applies {X : Type 0} (set : List Change) (result : Result X Refusal) 
   pub paid : IfTreeKnown before now (λ m n. IsPaid before.counts (work set (at m)) now.counts (work set (at n)))
   pub target : IfTreeKnown before now (λ m n. IfOk result (λ x. IsReady (at m) set × (at n ≡ after set (at m))))
 
+-- the text of an answer gives the number of the changes that were counted
+abbrev pub IsNumbered : {X : Type 0} → (X → List ℕ → Type 0) → Result X Refusal → TreeState → TreeState → Type 0
+IsNumbered shows result before now =
+    IfOk result (λ x. (changes : ℕ) × shows x (applied_text changes) × (now.counts.changes ≡ counted_on before.counts.changes changes))
+
 -- ---- what functions owe
 
 -- A call of the tree was refused only where it was counted as what it is, and denied only by a tree that is not known; no
@@ -105,6 +110,7 @@ IsRightOnTree stands word set tree counted (Err InvalidArguments) = ⊥
 pub record AppliesSet {X : Type 0} (stands : X → List ℕ → Type 0) (word : ℕ) (set : List Change) (before now : TreeState) (result : Result X Refusal) : Type 0 where
   pub right : IsRightOnTree stands word set before.contents (TreeCounted before now) result
   pub tree : Applies set result before now
+  pub number : IsNumbered stands result before now
 
 -- P holds of the only tree of a list, before and after
 abbrev pub OfOnlyTree : List TreeState → List TreeState → (TreeState → TreeState → Type 0) → Type 0

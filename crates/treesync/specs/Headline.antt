@@ -25,7 +25,7 @@ use Rattle.tool_words.specs.Jobs.{job_of}
 use Rattle.tool_words.specs.Words.{Operand, Text}
 use Rattle.tool_words.specs.declared.job.Job.TheVariants.{Apply, Conflicts, Merge, Record, Seal, Steer, Transition}
 use Rattle.tree_port.specs.States.{TreeState}
-use Rattle.resume_apply.specs.Finishing.{IsPaid}
+use Rattle.resume_apply.specs.Finishing.{IsPaid, counted_on}
 use Rattle.resume_apply.specs.Ready.{IsOnItsWay, IsReady, work}
 use Rattle.record_core.specs.Outcomes.{AtEnd, End, Large, Outcome as RecordOutcome, Refused, outcome_of}
 use Rattle.record_core.specs.Recording.{IsClosed, LeavesOpen}
@@ -223,6 +223,18 @@ PrintsApplied words before now status =
     job_of words ≡ Some (Apply folder file) → before.files.contents ≡ Some m → HoldsSet m.held file set →
     held_tree before.trees ≡ Some tree → status ≡ 0 → GainsApplied set tree before now
 
+-- so many changes of the only tree were counted
+abbrev pub IsChangedBy : List TreeState → ℕ → List TreeState → Type 0
+IsChangedBy (tree ∷ []) changes (now ∷ []) = now.counts.changes ≡ counted_on tree.counts.changes changes
+IsChangedBy trees changes later = ⊥
+
+-- With status 0 the number that an `apply` printed is that of the changes that were counted, whatever is known of the
+-- tree and of the files.
+abbrev pub PrintsChanges : List Text → Outside → Outside → ℕ → Type 0
+PrintsChanges words before now status =
+    (folder file : Operand) → job_of words ≡ Some (Apply folder file) → status ≡ 0 →
+    (changes : ℕ) × IsChangedBy before.trees changes now.trees × Gains (applied_text changes) before.out now.out
+
 -- the status is one of a text or of memory that ran out, unless a fault was counted, that of a tree among them
 abbrev pub CompletesOnTree : Outside → Outside → ℕ → Type 0
 CompletesOnTree before now status = (IsCountedByFirst (λ c. c.faults) before.trees now.trees → ⊥) → Completes before now status
@@ -243,8 +255,8 @@ pub record GoesOn (set : List Change) (start m : Store) (before now : Outside) (
   pub completes : CompletesOnTree before now status
 
 -- Interrupted application: wherever runs with the same words that were stopped, each between any two calls of the tree,
--- left a tree on its way from `start`, where nobody else wrote, this run leaves it on its way, and it ends at the target
--- of `start` unless a fault was counted or memory runs out. A tree that is ready is on its way from itself.
+-- left a tree on its way from `start`, where nothing else changed it, this run leaves it on its way, and it ends at the
+-- target of `start` unless a fault was counted or memory runs out. A tree that is ready is on its way from itself.
 abbrev pub ResumesApply : List Text → Outside → Outside → ℕ → Type 0
 ResumesApply words before now status =
     (folder file : Operand) (m : FileContents) (set : List Change) (start tree : Store) →

@@ -1,5 +1,6 @@
 -- The answer of each job, and of words, and what a run leaves.
-use Rattle.std.specs.Prelude.{◌≡◌, ◌⊎◌, ◌≤◌, ◌++◌, ℕ, ⊤, false, List, [], ◌∷◌, Option, None, Some, Result, Ok, Err, length}
+use Rattle.std.specs.Prelude.{Vec, ◌≡◌, ◌⊎◌, ◌≤◌, ◌++◌, ℕ, ⊤, false, List, [], ◌∷◌, Option, None, Some, Result, Ok, Err, length}
+use Rattle.std.specs.Global.{Global}
 use Rattle.sync_port.specs.States.{FaultCounted, IfKnown}
 use Rattle.sync_port.specs.Ports.{FileContents, FilesState, SinkState}
 use Rattle.sync_command.specs.Changes.{Change}
@@ -11,8 +12,8 @@ use Rattle.tool_words.specs.declared.job.Job.TheVariants.{Help, Replay, Canon, C
 use Rattle.tool_words.specs.Jobs.{job_of}
 use Rattle.tool_words.specs.Help.{help_text}
 use Rattle.tool_words.specs.Trees.{folder_places}
-use Rattle.treesync.specs.Checks.{Causes, Check, IsAllowed, IsAllowedOf, IsOfJob, Judged, ReadsFiles, Unless}
-use Rattle.treesync.specs.Apply.{Applies, IsApply, IsSetOf}
+use Rattle.treesync.specs.Checks.{Causes, Check, HasItems, IsAllowed, IsAllowedOf, IsOfJob, Judged, ReadsFiles, Unless}
+use Rattle.treesync.specs.Apply.{Applies, IsApply, IsNumbered, IsSetOf}
 use Rattle.treesync.specs.Canon.{IsCanon}
 use Rattle.treesync.specs.Catchup.{IsCatchup}
 use Rattle.treesync.specs.Conflicts.{IsConflicts}
@@ -25,7 +26,7 @@ use Rattle.treesync.specs.Steer.{IsSteer}
 use Rattle.treesync.specs.Transition.{IsTransition}
 use Rattle.treesync.specs.Undo.{IsUndo}
 use Rattle.treesync.specs.Ends.{Prints, Says, line_of}
-use Rattle.treesync.specs.Outputs.{AsText, Output}
+use Rattle.treesync.specs.Outputs.{AsText, Output, WholeText}
 use Rattle.treesync.specs.Rebase.{IsRebase, work_limits}
 use Rattle.treesync.specs.Replay.{IsReplay}
 use Rattle.treesync.specs.Record.{IsRecord}
@@ -124,10 +125,11 @@ abbrev pub IsSetHeld : Option FileContents → Operand → List Change → Type 
 IsSetHeld None file set = ⊤
 IsSetHeld (Some m) file set = IsSetOf file m.held false (Ok set)
 
--- a tree that was not asked, or to which the net set of SET was applied
-abbrev pub AppliesFile : {X : Type 0} → Operand → Option FileContents → Result X Refusal → List TreeState → List TreeState → Type 0
-AppliesFile file files result (tree ∷ []) (now ∷ []) = (set : List Change) × IsSetHeld files file set × Applies set result tree now
-AppliesFile file files result trees later = ⊥
+-- the only tree, to which the net set of SET was applied; `shows` says which text an answer has
+abbrev pub AppliesFile : {X : Type 0} → (X → List ℕ → Type 0) → Operand → Option FileContents → Result X Refusal → List TreeState → List TreeState → Type 0
+AppliesFile shows file files result (tree ∷ []) (now ∷ []) =
+    ((set : List Change) × IsSetHeld files file set × Applies set result tree now) × IsNumbered shows result tree now
+AppliesFile shows file files result trees later = ⊥
 
 abbrev pub IsRefused : {X : Type 0} → Result X Refusal → Type 0
 IsRefused (Ok x) = ⊥
@@ -135,24 +137,36 @@ IsRefused (Err r) = ⊤
 
 -- What becomes of the trees of a job that finds its answer before it prints: they are as before, and that is no answer of
 -- `apply`; or its set was applied; or they were looked at.
-abbrev pub LeavesTrees : {X : Type 0} → Job → Option FileContents → Result X Refusal → List TreeState → List TreeState → Type 0
-LeavesTrees (Apply folder file) files result trees later = ((later ≡ trees) × IsRefused result) ⊎ AppliesFile file files result trees later
-LeavesTrees (Seal folder file) files result trees later = (later ≡ trees) ⊎ LooksAtOnly result trees later
-LeavesTrees job files result trees later = later ≡ trees
+abbrev pub LeavesTrees : {X : Type 0} → (X → List ℕ → Type 0) → Job → Option FileContents → Result X Refusal → List TreeState → List TreeState → Type 0
+LeavesTrees shows (Apply folder file) files result trees later = ((later ≡ trees) × IsRefused result) ⊎ AppliesFile shows file files result trees later
+LeavesTrees shows (Seal folder file) files result trees later = (later ≡ trees) ⊎ LooksAtOnly result trees later
+LeavesTrees shows job files result trees later = later ≡ trees
 
 -- What a function owes that makes a check for a job: no count falls, what the files hold stays, and the answer is
--- allowed.
-pub record FindsFrom {X A : Type 0} (stands : X → A → Type 0) (P : Check A) (job : Job) (before now : Inputs) (result : Result X Refusal) : Type 0 where
+-- allowed. `stands` says what its value stands for, and `shows` which text it has.
+pub record FindsFrom {X A : Type 0} (stands : X → A → Type 0) (shows : X → List ℕ → Type 0) (P : Check A) (job : Job) (before now : Inputs) (result : Result X Refusal) : Type 0 where
   pub later : before.files.faults ≤ now.files.faults
   pub quiet : Unless result (now.files.faults ≡ before.files.faults)
   pub reads : IfKnown before.files now.files (ReadsFiles (limits_of job))
   pub allowed : IsAllowedOf stands P before.files.contents (InputsCounted before now) result
   pub of_job : IsOfJob result
-  pub trees : LeavesTrees job before.files.contents result before.trees now.trees
+  pub trees : LeavesTrees shows job before.files.contents result before.trees now.trees
+
+-- what a function owes that finds a text
+abbrev pub FindsText : Check (List ℕ) → Job → Inputs → Inputs → Result (Vec ℕ Global) Refusal → Type 0
+FindsText P job before now result = FindsFrom HasItems HasItems P job before now result
+
+-- the text of what stands for an output
+abbrev pub shows_text : {X : Type 0} → (X → Output → Type 0) → X → List ℕ → Type 0
+shows_text stands x text = stands x (WholeText text)
+
+-- and of an output itself
+abbrev pub shows_output : Output → List ℕ → Type 0
+shows_output output text = output ≡ WholeText text
 
 -- what finding the answer of a job owes
 abbrev pub FindsJob : {X : Type 0} → (X → Output → Type 0) → Job → Inputs → Inputs → Result X Refusal → Type 0
-FindsJob stands job before now result = FindsFrom stands (IsJobAnswer job (held_tree before.trees)) job before now result
+FindsJob stands job before now result = FindsFrom stands (shows_text stands) (IsJobAnswer job (held_tree before.trees)) job before now result
 
 -- What finding the answer of words owes. Where they are no job no file is opened.
 abbrev pub Finds : {X : Type 0} → (X → Output → Type 0) → Option Job → Inputs → Inputs → Result X Refusal → Type 0
@@ -177,7 +191,7 @@ inputs_of all = inputs all.files all.trees
 -- the trees of words, where they are a job
 abbrev pub LeavesTreesOf : Option Job → Option FileContents → Result Output Refusal → List TreeState → List TreeState → Type 0
 LeavesTreesOf None files answer trees later = later ≡ trees
-LeavesTreesOf (Some job) files answer trees later = LeavesTrees job files answer trees later
+LeavesTreesOf (Some job) files answer trees later = LeavesTrees shows_output job files answer trees later
 
 -- One answer explains a run: it is allowed by the words, the trees are what it leaves, `out` gained what it prints or
 -- nothing, and `err` its line.

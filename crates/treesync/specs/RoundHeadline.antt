@@ -82,9 +82,9 @@ pub record GoOn (sets : List (List Change)) (starts : List Holding) (maps : List
   pub completes : CompletesOnTrees before now status
 
 -- An interrupted round: wherever runs with the same words that were stopped, each between any two calls of the trees,
--- left trees on their way from `starts`, where nobody else wrote, this run leaves them on their way, and all of them end at
--- the targets of `starts` unless a fault was counted or memory runs out. Trees that are ready are on their way from
--- themselves.
+-- left trees on their way from `starts`, where nothing else changed them, this run leaves them on their way, and all of
+-- them end at the targets of `starts` unless a fault was counted or memory runs out. Trees that are ready are on their way
+-- from themselves.
 abbrev pub ResumesRound : List Text → Outside → Outside → ℕ → Type 0
 ResumesRound words before now status =
     (logs : List (List Change)) (merger : List Change) (tree : Store) (maps : List Store) (starts : List Holding) →

@@ -7,7 +7,7 @@ ghost use Rattle.resume_apply.specs.Ready.{IsReady};
 ghost use Rattle.tool_words.specs.declared.job.Job.TheVariants.{Apply};
 ghost use Rattle.treesync.specs.Apply.{AppliesSet, IsApply, IsSetOf, OfOnlyTree, applied_text, apply_refusal};
 ghost use Rattle.treesync.specs.Checks.{Answers, HasItems};
-ghost use Rattle.treesync.specs.Jobs.{FindsFrom, held_tree, inputs};
+ghost use Rattle.treesync.specs.Jobs.{FindsText, held_tree, inputs};
 
 use crate::input::FILE_LIMIT;
 use crate::logs::{FULL_ALLOWANCE, read_sum};
@@ -115,7 +115,7 @@ pub fn apply<F: Files>(
     files: &mut F,
     trees: &mut Vec<Box<dyn Tree>>,
 ) -> Result<Vec<u8>, Refusal>
-    ensures { length trees.old.items ≡ 1 → FindsFrom HasItems
+    ensures { length trees.old.items ≡ 1 → FindsText
         (IsApply folder.now file.now (held_tree (map (λ tree. live tree) trees.old.items)))
         (Apply folder.now file.now)
         (inputs (F.files files.old) (map (λ tree. live tree) trees.old.items))

@@ -6,7 +6,7 @@ ghost use Rattle.log_text.specs.Logs.{IsOfVersion, log_text};
 ghost use Rattle.tool_words.specs.declared.job.Job.TheVariants.{Seal};
 ghost use Rattle.treesync.specs.Apply.{OfOnlyTree};
 ghost use Rattle.treesync.specs.Checks.{HasItems};
-ghost use Rattle.treesync.specs.Jobs.{FindsFrom, held_tree, inputs};
+ghost use Rattle.treesync.specs.Jobs.{FindsText, held_tree, inputs};
 ghost use Rattle.treesync.specs.Seal.{IsSeal, Seals, seal_refusal};
 
 use crate::input::{FILE_LIMIT, read_file};
@@ -89,7 +89,7 @@ pub fn seal<F: Files>(
     files: &mut F,
     trees: &mut Vec<Box<dyn Tree>>,
 ) -> Result<Vec<u8>, Refusal>
-    ensures { length trees.old.items ≡ 1 → FindsFrom HasItems
+    ensures { length trees.old.items ≡ 1 → FindsText
         (IsSeal folder.now file.now (held_tree (map (λ tree. live tree) trees.old.items)))
         (Seal folder.now file.now)
         (inputs (F.files files.old) (map (λ tree. live tree) trees.old.items))

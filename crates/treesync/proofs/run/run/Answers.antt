@@ -2,7 +2,7 @@ use Rattle.std.proofs.Common.{map, string_bytes, ◌∙◌}
 use Rattle.std.proofs.lemmas.List.{length-map}
 use Rattle.treesync.proofs.Recordings.{prints_recorded}
 use Rattle.treesync.proofs.RoundHeadlines.{answers_round, joins_replicas, keeps_unready_round, resumes_round}
-use Rattle.treesync.proofs.Running.{runs_applied, runs_catchup, runs_clashes, runs_complete, runs_merger, runs_on, runs_reasons, runs_rebase, runs_rules, runs_sealed, runs_steered, runs_transition, runs_undo, runs_unready}
+use Rattle.treesync.proofs.Running.{runs_applied, runs_catchup, runs_changes, runs_clashes, runs_complete, runs_merger, runs_on, runs_reasons, runs_rebase, runs_rules, runs_sealed, runs_steered, runs_transition, runs_undo, runs_unready}
 use Rattle.treesync.proofs.Unique.{answer_one}
 use Rattle.treesync.proofs.Words.{no_trees_of}
 use Rattle.treesync.proofs.run.run.Goals as goal
@@ -30,6 +30,9 @@ returns-clause-rules g c = λ has. runs_rules _ _ _ _ (c.run_words.ensures.runs 
 
 pub returns-clause-applies : goal.returns-clause-applies
 returns-clause-applies g c = λ has. runs_applied _ _ _ _ (c.run_words.ensures.runs has)
+
+pub returns-clause-changes : goal.returns-clause-changes
+returns-clause-changes g c = λ has. runs_changes _ _ _ _ (c.run_words.ensures.runs has)
 
 pub returns-clause-resumes : goal.returns-clause-resumes
 returns-clause-resumes g c = λ has. runs_on _ _ _ _ (c.run_words.ensures.runs has)
