@@ -122,15 +122,15 @@ def shown(folder):
 class Bench:
     """The program, and a folder for the folders of the runs."""
 
-    def __init__(self, program, home):
+    def __init__(self, program, scratch):
         self.program = program
-        self.home = home
+        self.scratch = scratch
         self.count = 0
 
     def fresh(self, rows=None):
         """Returns the name of a new folder that holds these values, or of none."""
         self.count += 1
-        folder = f"{self.home}/t{self.count}"
+        folder = f"{self.scratch}/t{self.count}"
         if rows is not None:
             make(folder, rows)
         return folder
@@ -138,7 +138,7 @@ class Bench:
     def text(self, content):
         """Returns the name of a new file with this text."""
         self.count += 1
-        name = f"{self.home}/m{self.count}"
+        name = f"{self.scratch}/m{self.count}"
         write(name, content.encode())
         return name
 
