@@ -1,5 +1,5 @@
 -- One more write of a text, and one more piece of a file.
-use Rattle.std.proofs.Common.{◌≡◌, ℕ, List, [], ◌+◌, ◌++◌, ◌≤◌, take, drop, length, length-append, length-take, Some, Ok, Option, ap, ◌∙◌, sym, take-add, arith}
+use Rattle.std.proofs.Common.{◌≡◌, ℕ, List, [], ◌+◌, ◌++◌, ◌≤◌, take, drop, length, max, length-append, length-take, Some, Ok, Option, ap, ◌∙◌, sym, take-add, arith}
 use Rattle.std.proofs.lemmas.List.{append_assoc}
 use Rattle.sync_port.specs.States.{IfBoth, next_number}
 use Rattle.sync_port.specs.Ports.{FileContents, SinkContents, Opens, Reads, Writes}
@@ -24,9 +24,18 @@ pub record HasRead (name read : List ℕ) (m k : FileContents) : Type 0 where
   pub bytes : m.held name ≡ Some (read ++ k.to_come)
   pub opened : k.opened ≡ next_number m.opened
   pub taken : k.taken ≤ m.taken + length read
+  pub since_open : k.since_open ≤ length read
+  pub most : k.most ≤ max m.most (length read)
 
 pub nothing_read : {T : Type 0} (a b : Option FileContents) (name : List ℕ) (done : T) → IfBoth a b (Opens name (Ok done)) → IfBoth a b (HasRead name [])
-nothing_read a b name done h = both_more a b h (λ m k p. record { held = p.held; bytes = p.to_come; opened = p.opened; taken = omega (arith, p.taken) })
+nothing_read a b name done h = both_more a b h (λ m k p. record {
+  held = p.held;
+  bytes = p.to_come;
+  opened = p.opened;
+  taken = omega (arith, p.taken);
+  since_open = omega (arith, p.since_open);
+  most = omega (arith, p.most);
+})
 
 pub more_read : (a b c : Option FileContents) (name read buffer now : List ℕ) (count : ℕ) → count ≤ length buffer → now ≡ read ++ take count buffer →
     IfBoth a b (HasRead name read) → IfBoth b c (Reads buffer (Ok count)) → IfBoth a c (HasRead name now)
@@ -35,4 +44,6 @@ more_read a b c name read buffer now count within same h p = both_then a b c h p
   bytes = q.bytes ∙ ap (λ t. Some (read ++ t)) r.to_come ∙ ap Some (sym (append_assoc read (take count buffer) j.to_come)) ∙ ap (λ t. Some (t ++ j.to_come)) (sym same);
   opened = r.opened ∙ q.opened;
   taken = omega (arith, r.taken, q.taken, ap length same, length-append read (take count buffer), length-take count buffer);
+  since_open = omega (arith, r.since_open, q.since_open, ap length same, length-append read (take count buffer), length-take count buffer);
+  most = omega (arith, r.most, r.since_open, q.most, q.since_open, ap length same, length-append read (take count buffer), length-take count buffer);
 })

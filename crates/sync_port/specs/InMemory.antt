@@ -25,8 +25,23 @@ opens_counted s = s.opens
 abbrev pub bytes_taken : MemFiles → ℕ
 bytes_taken s = s.taken
 
+-- how many of them since the last call of `open`
+abbrev pub bytes_since_open : MemFiles → ℕ
+bytes_since_open s = s.since_open
+
+-- the largest number of bytes that were read after any one call of `open`
+abbrev pub most_taken : MemFiles → ℕ
+most_taken s = s.most
+
 abbrev pub file_contents : MemFiles → FileContents
-file_contents s = record { held = names_held s; to_come = bytes_to_come s; opened = opens_counted s; taken = bytes_taken s }
+file_contents s = record {
+  held = names_held s;
+  to_come = bytes_to_come s;
+  opened = opens_counted s;
+  taken = bytes_taken s;
+  since_open = bytes_since_open s;
+  most = most_taken s;
+}
 
 -- the numbers of the calls that fail
 abbrev pub calls_that_fail : MemFiles → List ℕ

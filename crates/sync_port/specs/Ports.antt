@@ -1,5 +1,5 @@
 -- What is known of files and sinks, and what their calls do to it.
-use Rattle.std.specs.Prelude.{◌≡◌, ◌⊎◌, ◌<◌, ◌≤◌, ◌++◌, [], take, length, ℕ, List, ⊤, Option, None, Some, Result, Ok, Err, IsErrOf, OnOk, OnErr}
+use Rattle.std.specs.Prelude.{◌≡◌, ◌⊎◌, ◌<◌, ◌≤◌, ◌++◌, [], take, length, max, ℕ, List, ⊤, Option, None, Some, Result, Ok, Err, IsErrOf, OnOk, OnErr}
 use Rattle.sync_port.specs.States.{PortState, FaultCounted, next_number, sum_within}
 use Rattle.sync_port.specs.declared.faults.PortFault.{PortFault}
 use Rattle.sync_port.specs.declared.faults.PortFault.TheVariants.{Failed}
@@ -12,12 +12,16 @@ abbrev pub Names : Type 0
 Names = List ℕ → Option (List ℕ)
 
 -- What is held under the names, and what is to come of the file that was opened last. The calls of
--- `open` and the bytes that were read are counted from the start, up to u64's last value.
+-- `open` and the bytes that were read are counted from the start, and the bytes also since the last
+-- call of `open`, each up to u64's last value. `most` is the largest number of bytes that were read
+-- after any one call of `open`.
 pub record FileContents : Type 0 where
   pub held : Names
   pub to_come : List ℕ
   pub opened : ℕ
   pub taken : ℕ
+  pub since_open : ℕ
+  pub most : ℕ
 
 abbrev pub FilesState : Type 0
 FilesState = PortState FileContents
@@ -35,6 +39,8 @@ pub record SameFiles (m k : FileContents) : Type 0 where
   pub held : k.held ≡ m.held
   pub opened : k.opened ≡ m.opened
   pub taken : k.taken ≡ m.taken
+  pub since_open : k.since_open ≡ m.since_open
+  pub most : k.most ≡ m.most
 
 -- an `open`: the bytes under the name are to come, or no file is open
 abbrev pub IsOpened : {T : Type 0} → List ℕ → Result T PortFault → FileContents → FileContents → Type 0
@@ -46,6 +52,8 @@ pub record Opens {T : Type 0} (name : List ℕ) (result : Result T PortFault) (m
   pub to_come : IsOpened name result m k
   pub opened : k.opened ≡ next_number m.opened
   pub taken : k.taken ≡ m.taken
+  pub since_open : k.since_open ≡ 0
+  pub most : k.most ≡ m.most
 
 -- the count of faults of an `open`; a name that is not held is no fault
 pub record OpenFaults {T : Type 0} (name : List ℕ) (result : Result T PortFault) (before now : FilesState) : Type 0 where
@@ -61,6 +69,8 @@ pub record ReadsPiece (piece : List ℕ) (count : ℕ) (m k : FileContents) : Ty
   pub end : count ≡ 0 → 0 < length piece → k.to_come ≡ []
   pub opened : k.opened ≡ m.opened
   pub taken : k.taken ≡ sum_within m.taken count
+  pub since_open : k.since_open ≡ sum_within m.since_open count
+  pub most : k.most ≡ max m.most k.since_open
 
 abbrev pub Reads : List ℕ → Result ℕ PortFault → FileContents → FileContents → Type 0
 Reads piece (Ok count) m k = ReadsPiece piece count m k

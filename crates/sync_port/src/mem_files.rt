@@ -21,11 +21,13 @@ pub struct MemFiles {
     calls: u64,
     opens: u64,
     taken: u64,
+    since_open: u64,
+    most: u64,
     faults: u64,
 }
 
 impl MemFiles {
-    ghost use Rattle.sync_port.specs.InMemory.{names_held, bytes_to_come, opens_counted, bytes_taken, file_contents, calls_that_fail, calls_made, faults_counted};
+    ghost use Rattle.sync_port.specs.InMemory.{names_held, bytes_to_come, opens_counted, bytes_taken, bytes_since_open, most_taken, file_contents, calls_that_fail, calls_made, faults_counted};
 
     /// Files that hold nothing. `fails` are the numbers of the calls that fail.
     pub fn new(alloc: Global, fails: Vec<u64>) -> MemFiles
@@ -35,6 +37,8 @@ impl MemFiles {
         ensures calls { calls_made result ≡ 0 }
         ensures opened { opens_counted result ≡ 0 }
         ensures taken { bytes_taken result ≡ 0 }
+        ensures since_open { bytes_since_open result ≡ 0 }
+        ensures most { most_taken result ≡ 0 }
         ensures faults { faults_counted result ≡ 0 }
     {
         MemFiles {
@@ -46,6 +50,8 @@ impl MemFiles {
             calls: 0,
             opens: 0,
             taken: 0,
+            since_open: 0,
+            most: 0,
             faults: 0,
         }
     }
@@ -62,6 +68,8 @@ impl MemFiles {
         ensures calls { calls_made self.new ≡ calls_made self.old }
         ensures opened { opens_counted self.new ≡ opens_counted self.old }
         ensures taken { bytes_taken self.new ≡ bytes_taken self.old }
+        ensures since_open { bytes_since_open self.new ≡ bytes_since_open self.old }
+        ensures most { most_taken self.new ≡ most_taken self.old }
         ensures faults { faults_counted self.new ≡ faults_counted self.old }
     {
         let bytes = Vec::from_slice(self.alloc, bytes)?;
@@ -97,6 +105,7 @@ impl Files for MemFiles {
         self.opens = self.opens.saturating_add(1);
         self.opened = None;
         self.at = 0;
+        self.since_open = 0;
         let Some(place) = place_of(&self.entries, name) else {
             return Err(PortFault::Failed);
         };
@@ -132,6 +141,8 @@ impl Files for MemFiles {
         let count = copy_first(rest, piece);
         self.at = self.at.saturating_add(count);
         self.taken = self.taken.saturating_add(count as u64);
+        self.since_open = self.since_open.saturating_add(count as u64);
+        self.most = self.most.max(self.since_open);
         Ok(count)
     }
 }
