@@ -1,5 +1,5 @@
 -- One check after another keeps what a function that makes them owes.
-use Rattle.std.proofs.Common.{◌≡◌, ◌+◌, ◌++◌, ◌≤◌, ℕ, List, [], sum, None, Some, Ok, Err, IsErrAnd, inl, inr, refl, sym, ap, subst, ◌∙◌, arith, length-append}
+use Rattle.std.proofs.Common.{◌≡◌, ◌+◌, ◌++◌, ◌≤◌, ℕ, List, [], ◌∷◌, sum, max, None, Some, Ok, Err, IsErrAnd, inl, inr, refl, sym, ap, subst, ◌∙◌, arith, length-append}
 use Rattle.std.proofs.lemmas.List.Sums.{sum_by-append}
 use Rattle.std.proofs.lemmas.Result.{err_from_is_err_and}
 use Rattle.std.specs.declared.option.Option.{Option}
@@ -7,7 +7,7 @@ use Rattle.std.specs.declared.result.Result.{Result}
 use Rattle.sync_port.specs.States.{IfBoth}
 use Rattle.sync_port.specs.Ports.{FileContents, FilesState}
 use Rattle.sync_port.proofs.CallerLemmas.{both_more, both_then, both_alone, counted_since}
-use Rattle.treesync.specs.Checks.{Answers, Causes, Check, FilesCounted, IsAllowed, IsAllowedOf, IsRight, IsJudged, IsOfJob, Judged, Next, ReadsFiles, Then, Unless}
+use Rattle.treesync.specs.Checks.{Answers, Causes, Check, FilesCounted, IsAllowed, IsAllowedOf, IsRight, IsJudged, IsOfJob, Judged, Next, ReadsFiles, Then, Unless, past_largest}
 use Rattle.treesync.specs.declared.refusal.Refusal.{Refusal}
 use Rattle.treesync.specs.declared.refusal.Failure.{Failure}
 use Rattle.treesync.specs.declared.refusal.Failure.TheVariants.{ReadFailed, TreeFailed, TreeDenied}
@@ -177,11 +177,16 @@ still_held Q counted limits (Some m) (Some k) answer kept h = subst (λ held. Is
 sum_of_both : (xs ys : List ℕ) → sum (xs ++ ys) ≡ sum xs + sum ys
 sum_of_both xs ys = sum_by-append (λ x. x) xs ys
 
+past_both : (xs ys : List ℕ) → past_largest (xs ++ ys) ≡ max (past_largest xs) (past_largest ys)
+past_both [] ys = omega arith
+past_both (x ∷ xs) ys = omega (arith, past_both xs ys)
+
 reads_both : (limits more all : List ℕ) (a b c : Option FileContents) → limits ++ more ≡ all → IfBoth a b (ReadsFiles limits) → IfBoth b c (ReadsFiles more) → IfBoth a c (ReadsFiles all)
 reads_both limits more all a b c e h g = both_then a b c h g (λ m k j p q. subst (λ l. ReadsFiles l m j) e (record {
   held = q.held ∙ p.held;
   opened = omega (arith, p.opened, q.opened, length-append limits more);
   taken = omega (arith, p.taken, q.taken, length-append limits more, sum_of_both limits more);
+  most = omega (arith, p.most, q.most, past_both limits more);
 }))
 
 quiet_both : {X : Type 0} (result : Result X Refusal) (a b c : ℕ) → b ≡ a → Unless result (c ≡ b) → Unless result (c ≡ a)
@@ -226,6 +231,7 @@ fewer_files stands P limits more all before now result e a = record {
     held = p.held;
     opened = omega (arith, p.opened, length-append limits more);
     taken = omega (arith, p.taken, length-append limits more, sum_of_both limits more);
+    most = omega (arith, p.most, past_both limits more);
   }));
   allowed = a.allowed;
   job = a.job;
@@ -255,7 +261,7 @@ alone stands Q counted known (Err (Found finding)) q = alone_of Q counted known 
 
 -- nothing was read
 pub reads_nothing : (limits : List ℕ) (known : Option FileContents) → IfBoth known known (ReadsFiles limits)
-reads_nothing limits known = both_alone (ReadsFiles limits) known (λ m. record { held = refl; opened = omega arith; taken = omega arith })
+reads_nothing limits known = both_alone (ReadsFiles limits) known (λ m. record { held = refl; opened = omega arith; taken = omega arith; most = omega arith })
 
 pub judged_alone : {X A : Type 0} (stands : X → A → Type 0) (Q : Result A Refusal → Type 0) (state : FilesState) (result : Result X Refusal) → IsJudged stands Q result → Answers stands (Judged Q) [] state state result
 judged_alone stands Q state result q = record {

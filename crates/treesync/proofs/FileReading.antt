@@ -47,7 +47,7 @@ if_not_less m n x y h = if_false (nat_lt m n) x y (lt_false m n h)
 -- ---- what was read of the files
 
 reads_within : (limit : ℕ) (name bytes : List ℕ) (a b : Option FileContents) → length bytes ≤ limit + 1 → IfBoth a b (HasRead name bytes) → IfBoth a b (ReadsFiles (limit ∷ []))
-reads_within limit name bytes a b within h = both_more a b h (λ m k p. record { held = p.held; opened = omega (arith, p.opened); taken = omega (arith, p.taken, within) })
+reads_within limit name bytes a b within h = both_more a b h (λ m k p. record { held = p.held; opened = omega (arith, p.opened); taken = omega (arith, p.taken, within); most = omega (arith, p.most, within) })
 
 -- ---- a call that failed
 
@@ -69,7 +69,7 @@ memory_allowed limit word name None counted = tt
 memory_allowed limit word name (Some m) counted = tt
 
 opened_within : (T : Type 0) (limit : ℕ) (name : List ℕ) (fault : PortFault) (a b : Option FileContents) → IfBoth a b (Opens {T = T} name (Err fault)) → IfBoth a b (ReadsFiles (limit ∷ []))
-opened_within T limit name fault a b h = both_more a b h (λ m k p. record { held = p.held; opened = omega (arith, p.opened); taken = omega (arith, p.taken) })
+opened_within T limit name fault a b h = both_more a b h (λ m k p. record { held = p.held; opened = omega (arith, p.opened); taken = omega (arith, p.taken); most = omega (arith, p.most) })
 
 pub not_opened : {T : Type 0} (limit word : ℕ) (name : List ℕ) (before now : FilesState) (fault : PortFault) →
     OpenFaults {T = T} name (Err fault) before now → IfKnown before now (Opens {T = T} name (Err fault)) → Answers AreBytes (IsFile limit word name) (limit ∷ []) before now (Err (call_refusal word fault))
@@ -164,6 +164,7 @@ all_read limit word name bytes buffer count before mid now none some within r f 
     held = q.held ∙ p.held;
     opened = omega (arith, p.opened, q.opened);
     taken = omega (arith, p.taken, q.taken, within);
+    most = omega (arith, p.most, p.since_open, q.most, q.since_open, none, within);
   });
   allowed = (
     bytes,

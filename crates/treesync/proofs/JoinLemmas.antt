@@ -86,7 +86,7 @@ wider : {X A : Type 0} (stands : X → A → Type 0) (P : Check A) (n m : ℕ) (
 wider stands P n m before now result le a = record {
   later = a.later;
   quiet = a.quiet;
-  reads = both_more before.contents now.contents a.reads (λ k j p. record { held = p.held; opened = p.opened; taken = omega (arith, p.taken) });
+  reads = both_more before.contents now.contents a.reads (λ k j p. record { held = p.held; opened = p.opened; taken = omega (arith, p.taken); most = omega (arith, p.most) });
   allowed = a.allowed;
   job = a.job;
 }

@@ -1,5 +1,5 @@
 -- Checks one after another, and what a function that makes them owes.
-use Rattle.std.specs.Prelude.{Vec, ◌≡◌, ◌⊎◌, ◌+◌, ◌≤◌, ℕ, List, length, sum, Bool, true, false, ⊤, None, Some, Ok, Err}
+use Rattle.std.specs.Prelude.{Vec, ◌≡◌, ◌⊎◌, ◌+◌, ◌≤◌, ℕ, List, [], ◌∷◌, length, sum, max, Bool, true, false, ⊤, None, Some, Ok, Err}
 use Rattle.std.specs.declared.option.Option.{Option}
 use Rattle.std.specs.declared.result.Result.{Result}
 use Rattle.sync_port.specs.States.{FaultCounted, IfKnown}
@@ -86,11 +86,18 @@ FilesCounted before now (ReadFailed word) = FaultCounted before now
 FilesCounted before now (TreeFailed word) = ⊥
 FilesCounted before now (TreeDenied word) = ⊥
 
--- what is held stays; at most so many files were opened as there are limits, and at most one byte past each limit was read
+-- one byte past the largest of the limits
+abbrev pub past_largest : List ℕ → ℕ
+past_largest [] = 0
+past_largest (limit ∷ limits) = max (limit + 1) (past_largest limits)
+
+-- What is held stays. At most so many files were opened as there are limits, and at most one byte past each limit was
+-- read of all of them together, and past the largest limit of each.
 pub record ReadsFiles (limits : List ℕ) (m k : FileContents) : Type 0 where
   pub held : k.held ≡ m.held
   pub opened : k.opened ≤ m.opened + length limits
   pub taken : k.taken ≤ m.taken + (sum limits + length limits)
+  pub most : k.most ≤ max m.most (past_largest limits)
 
 -- what a function owes that makes a check and reads files of these limits
 pub record Answers {X A : Type 0} (stands : X → A → Type 0) (P : Check A) (limits : List ℕ) (before now : FilesState) (result : Result X Refusal) : Type 0 where

@@ -208,7 +208,7 @@ NoTreeFell [] [] = ⊤
 NoTreeFell (tree ∷ trees) (now ∷ later) = NoneFell tree.counts now.counts × NoTreeFell trees later
 NoTreeFell trees later = ⊥
 
--- No count falls, each file of the job is opened once at most and read up to its limit, and what is held stays.
+-- No count falls, the files of the job are opened once each at most and read as their limits say, and what is held stays.
 pub record Keeps (words : List (List ℕ)) (before now : Outside) : Type 0 where
   pub files : before.files.faults ≤ now.files.faults
   pub trees : NoTreeFell before.trees now.trees
