@@ -1,5 +1,5 @@
 -- Where the files hold what a job asks for, the job has a text, and prints it.
-use Rattle.std.proofs.Common.{◌≡◌, ◌-◌, ◌≤◌, ◌<◌, true, false, ℕ, zero, suc, List, [], ◌∷◌, length, Option, None, Some, Result, Ok, Err, inl, inr, refl, sym, ap, subst, ◌∙◌, arith, ◌⊎◌}
+use Rattle.std.proofs.Common.{◌≡◌, ◌-◌, ◌≤◌, ◌<◌, true, false, ℕ, zero, suc, List, [], ◌∷◌, length, Option, None, Some, Ok, Err, inl, inr, refl, sym, ap, subst, ◌∙◌, arith, ◌⊎◌}
 use Rattle.std.proofs.lemmas.List.Sums.{sum_by-cons}
 use Rattle.sync_command.specs.Changes.{Change}
 use Rattle.sync_command.specs.Maps.{at, stored}
@@ -40,12 +40,12 @@ use Rattle.treesync.specs.Checks.{Check, IsOne, Judged}
 use Rattle.treesync.specs.Completeness.{CompletesJob, HoldChain, HoldJoin, HoldRebase, HoldReplay, HoldsTaken, IsMet, IsPrintedStatus}
 use Rattle.treesync.specs.Conflicts.{IsConflicts}
 use Rattle.treesync.specs.Drill.{IsDrill}
-use Rattle.treesync.specs.Explain.{IsExplain}
+use Rattle.treesync.specs.Explain.{AreReasons, IsExplain}
 use Rattle.treesync.specs.Headline.{HoldLogs, HoldTexts, Recorded, all_commands, text_of}
 use Rattle.treesync.specs.Jobs.{IsAnswerOf, Outside, Ran, held_tree}
 use Rattle.treesync.specs.Joining.{AreTaken, IsJoined, IsLogs, commands_of, joint_version}
 use Rattle.treesync.specs.Logs.{IsLog, ReadLog, later_version}
-use Rattle.treesync.specs.Merge.{IsFirstMergerFor, IsMerge}
+use Rattle.treesync.specs.Merge.{IsFirstMergerFor, IsMerge, IsMergerText}
 use Rattle.treesync.specs.Outputs.{AsText, Output, status_in}
 use Rattle.treesync.specs.Preferences.{preference_word}
 use Rattle.treesync.specs.Rebase.{IsRebase, IsRebaseOf, IsRebased, as_logs, side_number}
@@ -56,6 +56,7 @@ use Rattle.treesync.specs.Undo.{IsUndo}
 use Rattle.treesync.specs.declared.input.TheConstants.{FILE_LIMIT}
 use Rattle.treesync.specs.declared.logs.TheConstants.{FULL_ALLOWANCE, MAX_COMMANDS}
 use Rattle.treesync.specs.declared.refusal.Refusal.{Refusal}
+use Rattle.treesync.proofs.MergedLogs.{refused_as}
 use Rattle.treesync.proofs.HeadlineLemmas.{completes_of, job_answer, joined_read, merge_right, no_calls, text_completes}
 use Rattle.treesync.proofs.HeldLogs.{all_change_held, log_read, logs_read, ok_is, ok_no_err, preferences_read, read_of, reads_of, same_commands, snapshot_read}
 use Rattle.treesync.proofs.OutputLemmas.{as_text, low_status}
@@ -258,22 +259,10 @@ no_clash_refusal held files r h (inr (reads, l, inr (joined, j, never))) = never
 
 -- ---- reasons
 
-err_is : {r s : Refusal} → ◌≡◌ {A = Result Output Refusal} (Err r) (Err s) → r ≡ s
-err_is e = cc
-
 no_reason_refusal : (held : Names) (prefs : Option Operand) (files : List Operand) (r : Refusal) → HoldJoin held prefs files → IsExplain prefs files held false (Err r) → ⊥
-no_reason_refusal held prefs files r h e = let right = merge_right held prefs files h in ok_no_err (merge_one prefs files held (Ok right.0) (Err r) right.1 (merge_refused e))
-  where
-    turned : {s : Refusal} → ◌≡◌ {A = Result Output Refusal} (Err r) (Err s) → ◌≡◌ {A = Result (List ℕ) Refusal} (Err r) (Err s)
-    turned e = let same = err_is e in ap Err same
-
-    -- what refuses the reasons of the merger refuses the merger
-    merge_refused : IsExplain prefs files held false (Err r) → IsMerge prefs files held false (Err r)
-    merge_refused (inl h) = inl (h.0, h.1, turned h.2)
-    merge_refused (inr (rules, p, inl h)) = inr (rules, p, inl (h.0, h.1, turned h.2))
-    merge_refused (inr (rules, p, inr (reads, l, inl h))) = inr (rules, p, inr (reads, l, inl (h.0, h.1, turned h.2)))
-    merge_refused (inr (rules, p, inr (reads, l, inr (joined, j, inl h)))) = inr (rules, p, inr (reads, l, inr (joined, j, inl (h.0, h.1, turned h.2))))
-    merge_refused (inr (rules, p, inr (reads, l, inr (joined, j, inr (same, s, never))))) = absurd never
+no_reason_refusal held prefs files r h e =
+    let right = merge_right held prefs files h in
+    ok_no_err (merge_one prefs files held (Ok right.0) (Err r) right.1 (refused_as AreReasons IsMergerText prefs files held false r (λ rules reads h. h) e))
 
 -- they are printed with status 0
 explained_status : (held : Names) (prefs : Option Operand) (files : List Operand) (output : Output) → IsExplain prefs files held false (Ok output) → status_in output ≡ 0

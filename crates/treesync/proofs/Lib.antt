@@ -9,6 +9,7 @@ pub mod OutputLemmas
 pub mod WritingLemmas
 pub mod Words
 pub mod JoinLemmas
+pub mod MergedLogs
 pub mod MergeLemmas
 pub mod SteerLemmas
 pub mod TransitionLemmas

@@ -32,11 +32,11 @@ use Rattle.treesync.specs.Ends.{Prints}
 use Rattle.treesync.specs.Headline.{Gains, all_commands}
 use Rattle.treesync.specs.Jobs.{Outside}
 use Rattle.treesync.specs.Joining.{commands_of}
-use Rattle.treesync.specs.Merge.{IsFirstMergerFor, IsMerge}
+use Rattle.treesync.specs.Merge.{IsFirstMergerFor, IsMergerText}
 use Rattle.treesync.specs.Outputs.{Output, WholeText, text_in}
 use Rattle.treesync.specs.RoundHeadline.{AnswersRight, AnswersRound, CompletesOnTrees, GoOn, IsCountedByOne, IsRound, JoinsReplicas, KeepsUnreadyRound, MeetAt, ResumesRound, RoundCounted}
 use Rattle.treesync.specs.Runs.{RanRound, Runs, RunsJob}
-use Rattle.treesync.specs.Sync.{AreMergedLogs, CarriesRound, IsSync, IsSynced, Merged, merged_of, round_answer, synced_text}
+use Rattle.treesync.specs.Sync.{AreMergedLogs, CarriesRound, IsMergedBy, IsSync, IsSynced, Merged, merged_of, round_answer, synced_text}
 use Rattle.treesync.specs.declared.logs.TheConstants.{FULL_ALLOWANCE}
 use Rattle.treesync.specs.declared.refusal.Refusal.{Refusal}
 use Rattle.treesync.specs.declared.refusal.Refusal.TheVariants.{InvalidArguments, OutOfMemory, CallFailed, Found}
@@ -48,6 +48,7 @@ use Rattle.treesync.proofs.HeadlineLemmas.{merge_right}
 use Rattle.treesync.proofs.HeldLogs.{all_change_held, held_logs, held_preferences, ok_is, ok_no_err, one_recorded, one_rules, reads_of, same_commands}
 use Rattle.treesync.proofs.SameSets.{same_at}
 use Rattle.treesync.proofs.Syncing.{same_transitions}
+use Rattle.treesync.proofs.MergedLogs.{refused_as}
 use Rattle.treesync.proofs.Unique.{merge_one, sync_one}
 
 -- ---- trees on their way
@@ -109,10 +110,6 @@ pub record IsMergedAs (logs : List (List Change)) (merger : List Change) (tree :
   pub common : IsCommonTree tree merged.logs
   pub sets : transitions (at tree) merged.logs merged.merger ≡ transitions (at tree) logs merger
 
--- a refusal is one whatever would have been given
-same_refusal : {A B : Type 0} {r s : Refusal} → ◌≡◌ {A = Result A Refusal} (Err r) (Err s) → ◌≡◌ {A = Result B Refusal} (Err r) (Err s)
-same_refusal {A} {B} {r} {s} e = let same : r ≡ s = cc in ap Err same
-
 module _ (held : Names) (prefs : Option Operand) (files : List Operand) (join : HoldJoin held prefs files) (logs : List (List Change)) (same : logs ≡ all_commands join.logs) (merger : List Change)
     (first : IsFirstMergerFor logs join.rules merger) (tree : Store) (common : IsCommonTree tree logs) where
   merged_with : (merged : Merged) (set : List Change) → IsFirstMergerFor logs join.rules set → merged ≡ merged_of logs set → IsMergedAs logs merger tree merged
@@ -139,14 +136,7 @@ module _ (held : Names) (prefs : Option Operand) (files : List Operand) (join : 
       merged_with merged m.2.0 (subst (λ r. IsFirstMergerFor logs r m.2.0) under (subst (λ l. IsFirstMergerFor l rules m.2.0) is m.2.1)) (m.2.2 ∙ ap (λ l. merged_of l m.2.0) is)
 
   not_refused : (r : Refusal) → AreMergedLogs prefs files held false (Err r) → ⊥
-  not_refused r e = let right = merge_right held prefs files join in ok_no_err (merge_one prefs files held (Ok right.0) (Err r) right.1 (merge_refused e))
-    where
-      merge_refused : AreMergedLogs prefs files held false (Err r) → IsMerge prefs files held false (Err r)
-      merge_refused (inl (s, h, e)) = inl (s, h, same_refusal e)
-      merge_refused (inr (rules, p, inl (s, h, e))) = inr (rules, p, inl (s, h, same_refusal e))
-      merge_refused (inr (rules, p, inr (reads, l, inl (s, h, e)))) = inr (rules, p, inr (reads, l, inl (s, h, same_refusal e)))
-      merge_refused (inr (rules, p, inr (reads, l, inr (joined, j, inl (s, h, e))))) = inr (rules, p, inr (reads, l, inr (joined, j, inl (s, h, same_refusal e))))
-      merge_refused (inr (rules, p, inr (reads, l, inr (joined, j, inr (read, s, never))))) = absurd never
+  not_refused r e = let right = merge_right held prefs files join in ok_no_err (merge_one prefs files held (Ok right.0) (Err r) right.1 (refused_as IsMergedBy IsMergerText prefs files held false r (λ rules reads h. h) e))
 
 -- ---- what becomes of the trees
 

@@ -14,8 +14,6 @@ use Rattle.sync_round.specs.KnownRounds.{AreHeld, RoundsKnown}
 use Rattle.sync_port.specs.States.{IfBoth}
 use Rattle.sync_port.specs.Ports.{FilesState}
 use Rattle.tree_port.specs.States.{NoneFell, TreeState}
-use Rattle.merge_core.specs.FirstMergers.{IsFirstMergerOf}
-use Rattle.pref_list.specs.declared.rules.Rule.{Rule}
 use Rattle.resume_apply.specs.declared.faults.ApplyFault.TheVariants as apply
 use Rattle.sync_round.specs.Rounding.{AtPlace, EachTree, Rounds}
 use Rattle.sync_round.specs.Rounds.{OfRound, transitions}
@@ -28,18 +26,17 @@ use Rattle.treesync.specs.Answering.{output_of}
 use Rattle.treesync.specs.Checks.{Answers, FilesCounted, IsJudged, IsOfJob, ReadsFiles, Unless, seen}
 use Rattle.treesync.specs.Ends.{Prints, Says, line_of}
 use Rattle.treesync.specs.Jobs.{Keeps, NoTreeFell, Outside, inputs_of, limits_of_words}
-use Rattle.treesync.specs.Joining.{AreJoined, commands_of, log_limits}
-use Rattle.treesync.specs.Logs.{ReadLog}
+use Rattle.treesync.specs.Joining.{commands_of, log_limits}
+use Rattle.treesync.specs.Merging.{Asked, IsMergedOf}
 use Rattle.treesync.specs.Messages.{message_of}
 use Rattle.treesync.specs.Outputs.{Output, status_in}
 use Rattle.treesync.specs.Preferences.{preference_limits}
 use Rattle.treesync.specs.Runs.{EndsRight, RanRound, Runs, RunsJob}
 use Rattle.treesync.specs.Sync.{AreMergedLogs, CanLead, CarriesRound, FindsRound, IsMergedBy, IsOfTrees, LeadsTrees, Merged, StandsForMerged, merged_of, round_answer}
 use Rattle.treesync.specs.declared.answer.Answer.{Answer}
-use Rattle.treesync.specs.declared.joining.JoinedLogs.{JoinedLogs}
 use Rattle.treesync.specs.declared.refusal.Refusal.{Refusal}
 use Rattle.treesync.specs.declared.refusal.Refusal.TheVariants.{InvalidArguments, OutOfMemory, CallFailed, Found}
-use Rattle.treesync.specs.declared.sync.MergedLogs.{MergedLogs}
+use Rattle.treesync.specs.declared.merging.MergedLogs.{MergedLogs}
 use Rattle.treesync.proofs.CheckLemmas.{memory_allowed, reads_nothing}
 use Rattle.treesync.proofs.HeldLogs.{ok_no_err}
 use Rattle.treesync.proofs.MergeLemmas.{first_for}
@@ -49,20 +46,20 @@ use Rattle.treesync.proofs.Words.{failure_above, finding_above}
 
 -- ---- the logs and their merger
 
-module _ (joined : JoinedLogs) (rules : List Rule) (set : List Change) (first : IsFirstMergerOf joined.joint rules set) (reads : List ReadLog) (h : AreJoined joined reads) where
-  pub first_merged : IsJudged StandsForMerged (IsMergedBy rules reads) (Ok (record { joint = joined.joint; merger = set }))
+module _ (found : MergedLogs) (asked : Asked) (of : IsMergedOf found asked) where
+  pub first_merged : IsJudged StandsForMerged (IsMergedBy asked.0 asked.1) (Ok found)
   first_merged = (
-    merged_of (commands_of reads) set,
-    record { joint = h.joint; merger = refl },
-    (set, first_for joined rules set first reads h, refl),
+    merged_of (commands_of asked.1) found.merger,
+    record { joint = of.joined.joint; merger = refl },
+    (found.merger, first_for found.logs asked.0 found.merger of.first asked.1 of.joined, refl),
   )
 
-  pub can_lead : CanLead (length joined.joint.sets) (record { joint = joined.joint; merger = set })
+  pub can_lead : CanLead (length found.logs.joint.sets) found
   can_lead = record {
-    joint = record { logs = commands_of reads; stands = h.joint };
+    joint = record { logs = commands_of asked.1; stands = of.joined.joint };
     many = refl;
-    drawn = merger_drawn joined reads h rules set first;
-    fits = merger_fits joined reads h rules set first;
+    drawn = merger_drawn found.logs asked.1 of.joined asked.0 found.merger of.first;
+    fits = merger_fits found.logs asked.1 of.joined asked.0 found.merger of.first;
   }
 
 -- ---- the tree that is named
@@ -86,7 +83,7 @@ of_trees (fault.Tree number why) sets trees later h = let low = at_place _ (numb
 of_trees fault.Memory sets trees later h = tt
 
 pub named_tree : (number : ℕ) (found : MergedLogs) (why : RoundFault) (trees later : List TreeState) → CanLead number found → length trees ≡ number →
-    OfRound found.joint found.merger (λ sets. Rounds sets (Err why) trees later) → IsOfTrees number why
+    OfRound found.logs.joint found.merger (λ sets. Rounds sets (Err why) trees later) → IsOfTrees number why
 named_tree number found why trees later can many h =
     subst (λ n. IsOfTrees n why) many (of_trees why (transitions (at can.joint.stands.common.map) can.joint.logs found.merger) trees later (h can.joint.logs can.joint.stands.common.map can.joint.stands can.joint.stands.common.common))
 
@@ -98,7 +95,7 @@ same_transitions t ms ls same [] = refl
 same_transitions t ms ls same (log ∷ logs) = let here = canonical_merger t (net log) ms ls same in let rest = same_transitions t ms ls same logs in λ i. here i ∷ rest i
 
 pub led_trees : (number : ℕ) (found : MergedLogs) (folders : List Operand) (result : Result ℕ RoundFault) (answer : Result Output Refusal) (trees later : List TreeState) → CanLead number found →
-    OfRound found.joint found.merger (λ sets. Rounds sets result trees later) → OfRound found.joint found.merger (λ sets. (maps : List Store) → AreHeld trees maps → RoundsKnown sets maps result later) →
+    OfRound found.logs.joint found.merger (λ sets. Rounds sets result trees later) → OfRound found.logs.joint found.merger (λ sets. (maps : List Store) → AreHeld trees maps → RoundsKnown sets maps result later) →
     (answer ≡ round_answer folders result) ⊎ (answer ≡ Err OutOfMemory) → (merged : Merged) → StandsForMerged found merged → LeadsTrees folders merged answer trees later
 led_trees number found folders result answer trees later can leaves of_known answers merged stands = record {
   result = result;

@@ -39,7 +39,7 @@ use Rattle.refluent.specs.Joints.{Joined}
 use Rattle.tool_words.specs.Help.{help_text}
 use Rattle.treesync.specs.Conflicts.{AreClashes, IsConflicts, clash_lines}
 use Rattle.treesync.specs.Outputs.{AsText, ClashLines, Output, ReasonLines, WholeText}
-use Rattle.treesync.specs.Sync.{AreMerged, AreMergedLogs, AreMergedUnder, IsMergedBy, IsSync, IsSynced, Merged, round_answer}
+use Rattle.treesync.specs.Sync.{AreMergedLogs, IsMergedBy, IsSync, IsSynced, Merged, round_answer}
 use Rattle.sync_round.specs.Rounds.{transitions}
 use Rattle.sync_round.proofs.CallerLemmas.{one_answer, one_transitions}
 use Rattle.treesync.proofs.BrokenLogs.{broken_once, first_failing, not_broken, taken_prefix, taken_shorter, takes_prefix, takes_shorter}
@@ -48,15 +48,16 @@ use Rattle.treesync.proofs.SealedOnce.{sealing_once}
 use Rattle.treesync.proofs.JointNodes.{one_joint}
 use Rattle.treesync.proofs.SameSets.{one_list, same_at}
 use Rattle.treesync.specs.Catchup.{IsCatchup, IsCaughtUp, IsComposed, nets_of, word_of}
-use Rattle.treesync.specs.Explain.{AreReasons, IsExplain, IsExplainOf, IsExplained, reason_lines}
-use Rattle.treesync.specs.Merge.{IsFirstMergerFor, IsMerge, IsMergeOf, IsMerged, IsMergerText}
+use Rattle.treesync.specs.Explain.{AreReasons, IsExplain, reason_lines}
+use Rattle.treesync.specs.Merge.{IsFirstMergerFor, IsMerge, IsMergerText}
+use Rattle.treesync.specs.Merging.{OfLogs, OfMerging, UnderRules}
 use Rattle.treesync.specs.Rebase.{IsRebase, IsRebaseOf, IsRebased, IsTakenWork, as_logs, side_number}
 use Rattle.treesync.specs.Undo.{IsUndo, IsUndoing}
 use Rattle.rounds.specs.Compositions.{inverse_set}
 use Rattle.rounds.proofs.CallerLemmas.{stop_law, stop_once_law}
 use Rattle.tool_words.specs.declared.job.Side.{Side}
 use Rattle.treesync.specs.Preferences.{ArePreferences, RulesHold, preference_word, rule_refusal}
-use Rattle.treesync.specs.Transition.{IsTransition, IsTransitionOf, IsTransitioned, IsTransitionText}
+use Rattle.treesync.specs.Transition.{IsTransition, IsTransitioned, IsTransitionText}
 use Rattle.transition.proofs.CallerLemmas.{canonical_merger}
 use Rattle.treesync.specs.Drill.{IsDrill, IsDrillOf}
 use Rattle.record_core.specs.Scripts.{script_of}
@@ -293,18 +294,22 @@ merger_text_one rules reads common (Ok one) (Ok other) p q = ap Ok (p.2 ∙ ap (
 merger_text_one rules reads common (Ok one) (Err r) p q = absurd q
 merger_text_one rules reads common (Err r) other p q = absurd p
 
-merged_one : (word : ℕ) (rules : List Rule) (reads : List ReadLog) → HasCommonTree (commands_of reads) → OneOf (IsMerged word rules reads)
-merged_one word rules reads common =
-    next_one (RulesHold word rules reads) (IsMergerText rules) (rules_one word rules reads) (λ same h. merger_text_one rules same (subst (λ rs. HasCommonTree (commands_of rs)) (sym h.0) common))
+-- what is made of rules and logs has one answer, where it has one for logs that some tree takes together
+module _ {A : Type 0} (made : List Rule → List ReadLog → Result A Refusal → Type 0) (one_made : (rules : List Rule) (reads : List ReadLog) → HasCommonTree (commands_of reads) → OneOf (made rules reads)) where
+  under_rules_one : (word : ℕ) (rules : List Rule) (reads : List ReadLog) → HasCommonTree (commands_of reads) → OneOf (UnderRules made word rules reads)
+  under_rules_one word rules reads common =
+      next_one (RulesHold word rules reads) (made rules) (rules_one word rules reads) (λ same h. one_made rules same (subst (λ rs. HasCommonTree (commands_of rs)) (sym h.0) common))
 
-merge_of_one : (word : ℕ) (rules : List Rule) (files : List Operand) → IsOne (IsMergeOf word rules files)
-merge_of_one word rules files =
-    then_one (IsLogs FULL_ALLOWANCE files) (λ reads. Judged (Next (IsJoined files reads) (IsMerged word rules))) (logs_one FULL_ALLOWANCE files) (λ reads.
-    judged_one (Next (IsJoined files reads) (IsMerged word rules)) (next_one (IsJoined files reads) (IsMerged word rules) (joined_one files reads) (λ joined h. merged_one word rules joined (has_common files reads joined h))))
+  of_logs_one : (word : ℕ) (rules : List Rule) (files : List Operand) → IsOne (OfLogs made word rules files)
+  of_logs_one word rules files =
+      then_one (IsLogs FULL_ALLOWANCE files) (λ reads. Judged (Next (IsJoined files reads) (UnderRules made word rules))) (logs_one FULL_ALLOWANCE files) (λ reads.
+      judged_one (Next (IsJoined files reads) (UnderRules made word rules)) (next_one (IsJoined files reads) (UnderRules made word rules) (joined_one files reads) (λ joined h. under_rules_one word rules joined (has_common files reads joined h))))
+
+  merging_one : (prefs : Option Operand) (files : List Operand) → IsOne (OfMerging made prefs files)
+  merging_one prefs files = then_one (ArePreferences prefs) (λ rules. OfLogs made (preference_word prefs) rules files) (preferences_one prefs) (λ rules. of_logs_one (preference_word prefs) rules files)
 
 pub merge_one : (prefs : Option Operand) (files : List Operand) → IsOne (IsMerge prefs files)
-merge_one prefs files =
-    then_one (ArePreferences prefs) (λ rules. IsMergeOf (preference_word prefs) rules files) (preferences_one prefs) (λ rules. merge_of_one (preference_word prefs) rules files)
+merge_one = merging_one IsMergerText merger_text_one
 
 -- ---- the rules that steer to a set
 
@@ -380,18 +385,8 @@ transition_text_one number rules reads common (Ok one) (Ok other) p q = ap Ok (p
 transition_text_one number rules reads common (Ok one) (Err r) p q = absurd q
 transition_text_one number rules reads common (Err r) other p q = absurd p
 
-transitioned_one : (number word : ℕ) (rules : List Rule) (reads : List ReadLog) → HasCommonTree (commands_of reads) → OneOf (IsTransitioned number word rules reads)
-transitioned_one number word rules reads common =
-    next_one (RulesHold word rules reads) (IsTransitionText number rules) (rules_one word rules reads) (λ same h. transition_text_one number rules same (subst (λ rs. HasCommonTree (commands_of rs)) (sym h.0) common))
-
-transition_of_one : (number word : ℕ) (rules : List Rule) (files : List Operand) → IsOne (IsTransitionOf number word rules files)
-transition_of_one number word rules files =
-    then_one (IsLogs FULL_ALLOWANCE files) (λ reads. Judged (Next (IsJoined files reads) (IsTransitioned number word rules))) (logs_one FULL_ALLOWANCE files) (λ reads.
-    judged_one (Next (IsJoined files reads) (IsTransitioned number word rules)) (next_one (IsJoined files reads) (IsTransitioned number word rules) (joined_one files reads) (λ joined h. transitioned_one number word rules joined (has_common files reads joined h))))
-
 pub transition_one : (number : ℕ) (prefs : Option Operand) (files : List Operand) → IsOne (IsTransition number prefs files)
-transition_one number prefs files =
-    then_one (ArePreferences prefs) (λ rules. IsTransitionOf number (preference_word prefs) rules files) (preferences_one prefs) (λ rules. transition_of_one number (preference_word prefs) rules files)
+transition_one number = merging_one (IsTransitionText number) (transition_text_one number)
 
 -- ---- a set that is applied to a tree
 
@@ -542,7 +537,7 @@ module _ (side : Side) (word : ℕ) (rules : List Rule) (work_word : ℕ) (files
       next_one (EachTaken files reads) _ (each_taken_one files reads) (λ sets s.
       next_one (IsComposed files (nets_of sets)) _ (composed_one files (nets_of sets)) (λ set c.
       next_one (AllTaken (as_logs taken sets set)) (IsTransitioned (side_number side) word rules) (all_taken_one (as_logs taken sets set)) (λ joined j.
-      transitioned_one (side_number side) word rules joined (subst (λ rs. HasCommonTree (commands_of rs)) (sym j.0) j.1)))))
+      under_rules_one (IsTransitionText (side_number side)) (transition_text_one (side_number side)) word rules joined (subst (λ rs. HasCommonTree (commands_of rs)) (sym j.0) j.1)))))
 
 rebase_of_one : (side : Side) (word : ℕ) (rules : List Rule) (work : Operand) (files : List Operand) → IsOne (IsRebaseOf side word rules work files)
 rebase_of_one side word rules work files =
@@ -562,18 +557,8 @@ reasons_one rules reads common (Ok one) (Ok other) p q =
 reasons_one rules reads common (Ok one) (Err r) p q = absurd q
 reasons_one rules reads common (Err r) other p q = absurd p
 
-explained_one : (word : ℕ) (rules : List Rule) (reads : List ReadLog) → HasCommonTree (commands_of reads) → OneOf (IsExplained word rules reads)
-explained_one word rules reads common =
-    next_one (RulesHold word rules reads) (AreReasons rules) (rules_one word rules reads) (λ same h. reasons_one rules same (subst (λ rs. HasCommonTree (commands_of rs)) (sym h.0) common))
-
-explain_of_one : (word : ℕ) (rules : List Rule) (files : List Operand) → IsOne (IsExplainOf word rules files)
-explain_of_one word rules files =
-    then_one (IsLogs FULL_ALLOWANCE files) (λ reads. Judged (Next (IsJoined files reads) (IsExplained word rules))) (logs_one FULL_ALLOWANCE files) (λ reads.
-    judged_one (Next (IsJoined files reads) (IsExplained word rules)) (next_one (IsJoined files reads) (IsExplained word rules) (joined_one files reads) (λ joined h. explained_one word rules joined (has_common files reads joined h))))
-
 pub explain_one : (prefs : Option Operand) (files : List Operand) → IsOne (IsExplain prefs files)
-explain_one prefs files =
-    then_one (ArePreferences prefs) (λ rules. IsExplainOf (preference_word prefs) rules files) (preferences_one prefs) (λ rules. explain_of_one (preference_word prefs) rules files)
+explain_one = merging_one AreReasons reasons_one
 
 -- ---- a round
 
@@ -582,18 +567,8 @@ merged_by_one rules reads common (Ok one) (Ok other) p q = ap Ok (p.2 ∙ (λ i.
 merged_by_one rules reads common (Ok one) (Err r) p q = absurd q
 merged_by_one rules reads common (Err r) other p q = absurd p
 
-are_merged_one : (word : ℕ) (rules : List Rule) (reads : List ReadLog) → HasCommonTree (commands_of reads) → OneOf (AreMerged word rules reads)
-are_merged_one word rules reads common =
-    next_one (RulesHold word rules reads) (IsMergedBy rules) (rules_one word rules reads) (λ same h. merged_by_one rules same (subst (λ rs. HasCommonTree (commands_of rs)) (sym h.0) common))
-
-merged_under_one : (word : ℕ) (rules : List Rule) (files : List Operand) → IsOne (AreMergedUnder word rules files)
-merged_under_one word rules files =
-    then_one (IsLogs FULL_ALLOWANCE files) (λ reads. Judged (Next (IsJoined files reads) (AreMerged word rules))) (logs_one FULL_ALLOWANCE files) (λ reads.
-    judged_one (Next (IsJoined files reads) (AreMerged word rules)) (next_one (IsJoined files reads) (AreMerged word rules) (joined_one files reads) (λ joined h. are_merged_one word rules joined (has_common files reads joined h))))
-
 merged_logs_one : (prefs : Option Operand) (files : List Operand) → IsOne (AreMergedLogs prefs files)
-merged_logs_one prefs files =
-    then_one (ArePreferences prefs) (λ rules. AreMergedUnder (preference_word prefs) rules files) (preferences_one prefs) (λ rules. merged_under_one (preference_word prefs) rules files)
+merged_logs_one = merging_one IsMergedBy merged_by_one
 
 merged_common : (prefs : Option Operand) (files : List Operand) (held : Names) (merged : Merged) → AreMergedLogs prefs files held false (Ok merged) → HasCommonTree merged.logs
 merged_common prefs files held merged (inl h) = absurd (ok_not_err h.2)

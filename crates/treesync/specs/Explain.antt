@@ -11,14 +11,13 @@ use Rattle.log_text.specs.Frame.{ended}
 use Rattle.refluent.specs.Joints.{Joined, path_at}
 use Rattle.pref_list.specs.declared.rules.Rule.{Rule}
 use Rattle.tool_words.specs.Words.{Operand}
-use Rattle.treesync.specs.Checks.{Check, Judged, Next, Then}
+use Rattle.treesync.specs.Checks.{Check}
 use Rattle.treesync.specs.Conflicts.{node_text}
-use Rattle.treesync.specs.Joining.{IsJoined, IsJointOf, IsLogs, commands_of}
+use Rattle.treesync.specs.Joining.{IsJointOf, commands_of}
 use Rattle.treesync.specs.Logs.{ReadLog}
 use Rattle.treesync.specs.Merge.{IsFirstMergerFor}
+use Rattle.treesync.specs.Merging.{OfMerging}
 use Rattle.treesync.specs.Outputs.{Output, ReasonLines}
-use Rattle.treesync.specs.Preferences.{ArePreferences, RulesHold, preference_word}
-use Rattle.treesync.specs.declared.logs.TheConstants.{FULL_ALLOWANCE}
 use Rattle.treesync.specs.declared.refusal.Refusal.{Refusal}
 
 -- ---- lines
@@ -52,14 +51,5 @@ AreReasons rules reads (Ok output) =
     ShowsReasons (joint, canonical merger) output
 AreReasons rules reads (Err r) = ⊥
 
--- what is made of logs that some tree takes together, under the rules that a word names
-abbrev pub IsExplained : ℕ → List Rule → List ReadLog → Result Output Refusal → Type 0
-IsExplained word rules reads = Next (RulesHold word rules reads) (AreReasons rules)
-
--- what is made of the logs in the files
-abbrev pub IsExplainOf : ℕ → List Rule → List Operand → Check Output
-IsExplainOf word rules files =
-    Then (IsLogs FULL_ALLOWANCE files) (λ reads. Judged (Next (IsJoined files reads) (IsExplained word rules)))
-
 abbrev pub IsExplain : Option Operand → List Operand → Check Output
-IsExplain prefs files = Then (ArePreferences prefs) (λ rules. IsExplainOf (preference_word prefs) rules files)
+IsExplain prefs files = OfMerging AreReasons prefs files

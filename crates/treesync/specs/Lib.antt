@@ -5,6 +5,7 @@ pub mod Joining
 pub mod Preferences
 pub mod Canon
 pub mod Replay
+pub mod Merging
 pub mod Merge
 pub mod Steer
 pub mod Transition

@@ -20,17 +20,17 @@ use Rattle.sync_round.specs.declared.faults.RoundFault.{RoundFault}
 use Rattle.sync_round.specs.declared.faults.RoundFault.TheVariants as fault
 use Rattle.tool_words.specs.Words.{Operand, places_of}
 use Rattle.treesync.specs.Apply.{apply_refusal}
-use Rattle.treesync.specs.Checks.{Check, FilesCounted, IsAllowed, IsOfJob, Judged, Next, ReadsFiles, Then, Unless}
-use Rattle.treesync.specs.Joining.{IsJoined, IsLogs, commands_of, log_limits}
+use Rattle.treesync.specs.Checks.{Check, FilesCounted, IsAllowed, IsOfJob, ReadsFiles, Then, Unless}
+use Rattle.treesync.specs.Joining.{commands_of, log_limits}
 use Rattle.treesync.specs.Logs.{ReadLog}
 use Rattle.treesync.specs.Merge.{IsFirstMergerFor}
+use Rattle.treesync.specs.Merging.{OfMerging}
 use Rattle.treesync.specs.Outputs.{Output, WholeText}
-use Rattle.treesync.specs.Preferences.{ArePreferences, RulesHold, preference_limits, preference_word}
-use Rattle.treesync.specs.declared.logs.TheConstants.{FULL_ALLOWANCE}
+use Rattle.treesync.specs.Preferences.{preference_limits}
 use Rattle.treesync.specs.declared.refusal.Refusal.{Refusal}
 use Rattle.treesync.specs.declared.refusal.Refusal.TheVariants.{CallFailed, OutOfMemory}
 use Rattle.treesync.specs.declared.refusal.Failure.TheVariants.{TreeFailed}
-use Rattle.treesync.specs.declared.sync.MergedLogs.{MergedLogs}
+use Rattle.treesync.specs.declared.merging.MergedLogs.{MergedLogs}
 
 -- ---- the logs and their merger
 
@@ -49,29 +49,20 @@ IsMergedBy rules reads (Ok merged) =
     (merger : List Change) × IsFirstMergerFor (commands_of reads) rules merger × (merged ≡ merged_of (commands_of reads) merger)
 IsMergedBy rules reads (Err r) = ⊥
 
--- what is made of logs that some tree takes together, under the rules that a word names
-abbrev pub AreMerged : ℕ → List Rule → List ReadLog → Result Merged Refusal → Type 0
-AreMerged word rules reads = Next (RulesHold word rules reads) (IsMergedBy rules)
-
--- what is made of the logs in the files
-abbrev pub AreMergedUnder : ℕ → List Rule → List Operand → Check Merged
-AreMergedUnder word rules files =
-    Then (IsLogs FULL_ALLOWANCE files) (λ reads. Judged (Next (IsJoined files reads) (AreMerged word rules)))
-
 abbrev pub AreMergedLogs : Option Operand → List Operand → Check Merged
-AreMergedLogs prefs files = Then (ArePreferences prefs) (λ rules. AreMergedUnder (preference_word prefs) rules files)
+AreMergedLogs prefs files = OfMerging IsMergedBy prefs files
 
 -- a joint and a set stand for logs and a merger of them
 pub record StandsForMerged (found : MergedLogs) (merged : Merged) : Type 0 where
-  pub joint : StandsForAll found.joint merged.logs
+  pub joint : StandsForAll found.logs.joint merged.logs
   pub merger : merged.merger ≡ canonical found.merger
 
 -- what a round of so many trees asks of a joint and a set
 pub record CanLead (number : ℕ) (found : MergedLogs) : Type 0 where
-  pub joint : IsJoint found.joint
-  pub many : length found.joint.sets ≡ number
-  pub drawn : IsSubset found.merger (drawn_of found.joint.sets)
-  pub fits : FitsCommonTrees found.joint found.merger
+  pub joint : IsJoint found.logs.joint
+  pub many : length found.logs.joint.sets ≡ number
+  pub drawn : IsSubset found.merger (drawn_of found.logs.joint.sets)
+  pub fits : FitsCommonTrees found.logs.joint found.merger
 
 -- ---- the answer
 

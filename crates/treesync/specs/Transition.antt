@@ -10,12 +10,11 @@ use Rattle.refluent.specs.FirstDisagreements.{log_at}
 use Rattle.pref_list.specs.declared.rules.Rule.{Rule}
 use Rattle.transition.specs.Transitions.{transition}
 use Rattle.tool_words.specs.Words.{Operand}
-use Rattle.treesync.specs.Checks.{Check, Judged, Next, Then}
-use Rattle.treesync.specs.Joining.{IsJoined, IsLogs, commands_of, joint_version}
+use Rattle.treesync.specs.Checks.{Check}
+use Rattle.treesync.specs.Joining.{commands_of, joint_version}
 use Rattle.treesync.specs.Logs.{ReadLog}
 use Rattle.treesync.specs.Merge.{IsFirstMergerFor}
-use Rattle.treesync.specs.Preferences.{ArePreferences, RulesHold, preference_word}
-use Rattle.treesync.specs.declared.logs.TheConstants.{FULL_ALLOWANCE}
+use Rattle.treesync.specs.Merging.{OfMerging, UnderRules}
 use Rattle.treesync.specs.declared.refusal.Refusal.{Refusal}
 
 -- the set is the transition of the log of this number by the merger, for every tree that takes all the logs
@@ -32,13 +31,7 @@ IsTransitionText number rules reads (Err r) = ⊥
 
 -- what is made of logs that some tree takes together, under the rules that a word names
 abbrev pub IsTransitioned : ℕ → ℕ → List Rule → List ReadLog → Result (List ℕ) Refusal → Type 0
-IsTransitioned number word rules reads = Next (RulesHold word rules reads) (IsTransitionText number rules)
-
--- what is made of the logs in the files
-abbrev pub IsTransitionOf : ℕ → ℕ → List Rule → List Operand → Check (List ℕ)
-IsTransitionOf number word rules files =
-    Then (IsLogs FULL_ALLOWANCE files) (λ reads. Judged (Next (IsJoined files reads) (IsTransitioned number word rules)))
+IsTransitioned number word rules reads = UnderRules (IsTransitionText number) word rules reads
 
 abbrev pub IsTransition : ℕ → Option Operand → List Operand → Check (List ℕ)
-IsTransition number prefs files =
-    Then (ArePreferences prefs) (λ rules. IsTransitionOf number (preference_word prefs) rules files)
+IsTransition number prefs files = OfMerging (IsTransitionText number) prefs files

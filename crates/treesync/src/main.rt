@@ -12,6 +12,7 @@ mod input;
 mod joining;
 mod logs;
 mod merge;
+mod merging;
 mod preferences;
 mod reason_lines;
 mod rebase;

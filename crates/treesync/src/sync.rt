@@ -1,108 +1,21 @@
 //! The command `sync [--prefs FILE] K FOLDER... LOG...`.
 
-ghost use Rattle.std.specs.Prelude.{◌≡◌, ◌≤◌, ◌++◌, List, length, map, IfOk};
+ghost use Rattle.std.specs.Prelude.{◌≡◌, ◌≤◌, length, map, IfOk};
 ghost use Rattle.refluent.specs.declared.joint.TheConstants.{MAX_LOGS};
-ghost use Rattle.pref_list.specs.Orders.{IsRankingOf};
-ghost use Rattle.pref_list.specs.declared.rules.Rule.{Rule};
 ghost use Rattle.treesync.specs.Answering.{output_of};
-ghost use Rattle.treesync.specs.Checks.{Answers, IsJudged, seen};
-ghost use Rattle.treesync.specs.Joining.{AreJoined, log_limits};
-ghost use Rattle.treesync.specs.Logs.{ReadLog};
-ghost use Rattle.treesync.specs.Preferences.{preference_limits};
-ghost use Rattle.treesync.specs.Sync.{AreMerged, AreMergedLogs, AreMergedUnder, CanLead, FindsRound, IsMergedBy, IsOfTrees, LeadsTrees, Merged, StandsForMerged, round_refusal, synced_text};
+ghost use Rattle.treesync.specs.Checks.{seen};
+ghost use Rattle.treesync.specs.Sync.{CanLead, FindsRound, IsOfTrees, LeadsTrees, Merged, StandsForMerged, round_refusal, synced_text};
 
 use crate::apply::apply_refusal;
-use crate::joining::{JoinedLogs, join_logs, read_logs};
-use crate::logs::FULL_ALLOWANCE;
-use crate::preferences::{preference_word, preferences, ranking_under};
+use crate::merging::{MergedLogs, merged_logs};
 use crate::{Answer, Refusal};
-use canon_set::CanonSet;
 use itoa::Buffer;
-use pref_list::{Ranking, Rule};
-use refluent::Joint;
 use std::alloc::Global;
 use sync_path::NoMemory;
 use sync_port::Files;
 use sync_round::{RoundFault, round};
 use tool_words::{FileList, Word, texts};
 use tree_port::Tree;
-
-/// The joint of logs, and their first merger.
-#[derive(Drop)]
-pub struct MergedLogs {
-    joint: Joint,
-    merger: CanonSet,
-}
-
-/// The first merger of logs under a ranking, beside their joint.
-fn first_merged(alloc: Global, logs: JoinedLogs, ranking: &Ranking) -> Result<MergedLogs, Refusal>
-    requires logs { (reads : List ReadLog) × AreJoined logs reads }
-    requires ranking { (rules : List Rule) × IsRankingOf logs.joint.sets rules ranking.now }
-    ensures merged { (reads : List ReadLog) (rules : List Rule) → AreJoined logs reads →
-        IsRankingOf logs.joint.sets rules ranking.now →
-        IsJudged StandsForMerged (IsMergedBy rules reads) result }
-    ensures can_lead { IfOk result (CanLead (length logs.joint.sets)) }
-{
-    let merger = merge_core::merge(alloc, &logs.joint, ranking)?;
-    Ok(MergedLogs {
-        joint: logs.joint,
-        merger,
-    })
-}
-
-/// The first merger of logs under the rules, which the word at the place `word` names, beside their joint.
-fn merged(
-    alloc: Global,
-    word: usize,
-    rules: &[Rule],
-    logs: JoinedLogs,
-) -> Result<MergedLogs, Refusal>
-    requires { (reads : List ReadLog) × AreJoined logs reads }
-    ensures merged { (reads : List ReadLog) → AreJoined logs reads →
-        IsJudged StandsForMerged (AreMerged word rules.now reads) result }
-    ensures can_lead { IfOk result (CanLead (length logs.joint.sets)) }
-{
-    let ranking = ranking_under(alloc, word, rules, &logs.joint)?;
-    first_merged(alloc, logs, &ranking)
-}
-
-/// The first merger of the logs in the files of these names under the rules, which the word at the place `word` names,
-/// beside their joint.
-fn merged_under<F: Files>(
-    alloc: Global,
-    word: usize,
-    rules: &[Rule],
-    names: &FileList<'_>,
-    files: &mut F,
-) -> Result<MergedLogs, Refusal>
-    requires { length names.now ≤ MAX_LOGS }
-    ensures answer { Answers StandsForMerged (AreMergedUnder word rules.now names.now)
-        (log_limits names.now) (F.files files.old) (F.files files.new) result }
-    ensures can_lead { IfOk result (CanLead (length names.now)) }
-{
-    let logs = read_logs(alloc, FULL_ALLOWANCE, names, files)?;
-    let joined = join_logs(alloc, names, logs)?;
-    merged(alloc, word, rules, joined)
-}
-
-/// The first merger of the logs in the files of these names, under the rules of the file that `prefs` names or under
-/// none, beside their joint.
-fn merged_logs<F: Files>(
-    alloc: Global,
-    prefs: &Option<Word<'_>>,
-    names: &FileList<'_>,
-    files: &mut F,
-) -> Result<MergedLogs, Refusal>
-    requires { length names.now ≤ MAX_LOGS }
-    ensures answer { Answers StandsForMerged (AreMergedLogs prefs.now names.now)
-        (preference_limits prefs.now ++ log_limits names.now)
-        (F.files files.old) (F.files files.new) result }
-    ensures can_lead { IfOk result (CanLead (length names.now)) }
-{
-    let rules = preferences(alloc, prefs, files)?;
-    let word = preference_word(prefs);
-    merged_under(alloc, word, &rules, names, files)
-}
 
 /// The text `synced N`.
 fn synced_text(alloc: Global, number: u64) -> Result<Vec<u8>, NoMemory>
@@ -134,20 +47,20 @@ fn round_refusal(folders: &FileList<'_>, fault: RoundFault) -> Refusal
 fn lead_trees(
     alloc: Global,
     folders: &FileList<'_>,
-    logs: &MergedLogs,
+    merged: &MergedLogs,
     trees: &mut Vec<Box<dyn Tree>>,
 ) -> Result<Answer, Refusal>
-    requires { CanLead (length folders.now) logs.now }
+    requires { CanLead (length folders.now) merged.now }
     ensures { length trees.old.items ≡ length folders.now →
-        (merged : Merged) → StandsForMerged logs.now merged →
-        LeadsTrees folders.now merged (seen output_of result)
+        (logs : Merged) → StandsForMerged merged.now logs →
+        LeadsTrees folders.now logs (seen output_of result)
         (map (λ tree. live tree) trees.old.items)
         (map (λ tree. live tree) trees.new.items) }
 {
     if trees.len() != folders.len() {
         return Err(Refusal::OutOfMemory);
     }
-    match round(alloc, &logs.joint, &logs.merger, trees) {
+    match round(alloc, &merged.logs.joint, &merged.merger, trees) {
         Ok(number) => Ok(Answer::Text(synced_text(alloc, number)?)),
         Err(fault) => Err(round_refusal(folders, fault)),
     }
@@ -174,6 +87,6 @@ pub fn sync<F: Files>(
         (map (λ tree. live tree) trees.old.items) (map (λ tree. live tree) trees.new.items)
         (seen output_of result) }
 {
-    let logs = merged_logs(alloc, prefs, names, files)?;
-    lead_trees(alloc, folders, &logs, trees)
+    let merged = merged_logs(alloc, prefs, names, files)?;
+    lead_trees(alloc, folders, &merged, trees)
 }

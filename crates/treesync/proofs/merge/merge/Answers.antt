@@ -1,20 +1,19 @@
-use Rattle.std.proofs.Common.{refl, subst, ◌∙◌}
-use Rattle.treesync.specs.Checks.{Answers, HasItems}
+use Rattle.std.proofs.Common.{◌++◌}
+use Rattle.treesync.specs.Checks.{HasItems}
 use Rattle.treesync.specs.Joining.{log_limits}
-use Rattle.treesync.specs.Merge.{IsMergeOf}
-use Rattle.treesync.specs.Preferences.{ArePreferences, preference_limits, preference_word}
-use Rattle.treesync.proofs.CheckLemmas.{fewer_files, then_handed_on, then_next}
+use Rattle.treesync.specs.Merge.{IsMergerText}
+use Rattle.treesync.specs.Preferences.{preference_limits}
+use Rattle.treesync.proofs.MergedLogs.{handed_on, made_of}
 use Rattle.treesync.proofs.merge.merge.Goals as goal
 
-pub returns-in_err-rules : goal.returns-in_err-rules
-returns-in_err-rules g c =
-    fewer_files HasItems _ (preference_limits c.args.prefs.now) (log_limits c.args.names.now) _ _ _ _ refl
-    (then_handed_on HasItems HasItems (ArePreferences c.args.prefs.now) (λ rules. IsMergeOf (preference_word c.args.prefs.now) rules c.args.names.now) (preference_limits c.args.prefs.now)
-    (g.F.Files.files c.args.files.now) (g.F.Files.files c.preferences.new.files) c.in_err-rules.field-0.0 c.from_residual.result c.from_residual.ensures.1 c.in_err-rules.ensures)
+pub merger_text-requires : goal.merger_text-requires
+merger_text-requires g c = let a = c.in_ok-merged.ensures.answer.allowed in (a.0, a.1)
+
+pub returns-in_err-merged : goal.returns-in_err-merged
+returns-in_err-merged g c =
+    handed_on IsMergerText c.args.prefs.now c.args.names.now HasItems (preference_limits c.args.prefs.now ++ log_limits c.args.names.now) _ _ c.in_err-merged.field-0.0 c.from_residual.result c.from_residual.ensures.1
+    c.in_err-merged.ensures.answer
 
 pub returns : goal.returns
 returns g c =
-    then_next HasItems HasItems (ArePreferences c.args.prefs.now) (λ rules. IsMergeOf (preference_word c.args.prefs.now) rules c.args.names.now) (preference_limits c.args.prefs.now) (log_limits c.args.names.now) _
-    (g.F.Files.files c.args.files.now) (g.F.Files.files c.preferences.new.files) (g.F.Files.files c.merge_under.new.files) c.in_ok-rules.rules c.merge_under.result refl c.in_ok-rules.ensures (λ rules h.
-    subst (λ r. Answers HasItems (IsMergeOf (preference_word c.args.prefs.now) r c.args.names.now) (log_limits c.args.names.now) (g.F.Files.files c.preferences.new.files) (g.F.Files.files c.merge_under.new.files) c.merge_under.result)
-    (c.deref.ensures.value ∙ h) (rw c.preference_word-word.ensures at c.merge_under.ensures))
+    made_of IsMergerText c.args.prefs.now c.args.names.now HasItems (preference_limits c.args.prefs.now ++ log_limits c.args.names.now) _ _ c.in_ok-merged.merged c.merger_text.result c.in_ok-merged.ensures.answer c.merger_text.ensures

@@ -6,11 +6,10 @@ use Rattle.treesync.proofs.merge.merger_text.Goals as goal
 
 pub print_log-requires : goal.print_log-requires
 print_log-requires c =
-    let r = c.requires.ranking in
-    let h = c.requires.logs in
-    subst (AllByRecursion (IsOfVersion c.args.logs.now.version)) (sym c.commands.ensures.commands)
-    (merger_printable c.args.logs.now r.0 c.in_ok-set.set (c.in_ok-set.ensures r.0 r.1) h.0 h.1)
+    let r = c.requires in
+    subst (AllByRecursion (IsOfVersion c.args.merged.now.logs.version)) (sym c.commands.ensures.commands)
+    (merger_printable c.args.merged.now.logs r.0.0 c.args.merged.now.merger r.1.first r.0.1 r.1.joined)
 
 pub returns : goal.returns
-returns c = λ reads prefs h r.
-    merger_printed c.args.logs.now prefs c.in_ok-set.set (c.in_ok-set.ensures prefs r) reads h c.print_log.new.out c.commands.ensures.order (search rules)
+returns c = λ asked of.
+    merger_printed c.args.merged.now.logs asked.0 c.args.merged.now.merger of.first asked.1 of.joined c.print_log.new.out c.commands.ensures.order (search rules)

@@ -1,20 +1,23 @@
-use Rattle.std.proofs.Common.{refl, subst, ◌∙◌}
-use Rattle.treesync.specs.Checks.{Answers, HasItems}
+use Rattle.std.proofs.Common.{◌++◌, arith}
+use Rattle.treesync.specs.Checks.{HasItems}
 use Rattle.treesync.specs.Joining.{log_limits}
-use Rattle.treesync.specs.Preferences.{ArePreferences, preference_limits, preference_word}
-use Rattle.treesync.specs.Transition.{IsTransitionOf}
-use Rattle.treesync.proofs.CheckLemmas.{fewer_files, then_handed_on, then_next}
+use Rattle.treesync.specs.Preferences.{preference_limits}
+use Rattle.treesync.specs.Transition.{IsTransitionText}
+use Rattle.treesync.proofs.MergedLogs.{handed_on, made_of}
 use Rattle.treesync.proofs.transitions.transition.Goals as goal
 
-pub returns-in_err-rules : goal.returns-in_err-rules
-returns-in_err-rules g c =
-    fewer_files HasItems _ (preference_limits c.args.prefs.now) (log_limits c.args.names.now) _ _ _ _ refl
-    (then_handed_on HasItems HasItems (ArePreferences c.args.prefs.now) (λ rules. IsTransitionOf c.args.number (preference_word c.args.prefs.now) rules c.args.names.now) (preference_limits c.args.prefs.now)
-    (g.F.Files.files c.args.files.now) (g.F.Files.files c.preferences.new.files) c.in_err-rules.field-0.0 c.from_residual.result c.from_residual.ensures.1 c.in_err-rules.ensures)
+pub transition_text-requires-clause-number : goal.transition_text-requires-clause-number
+transition_text-requires-clause-number g c = (c.requires.number.0, omega (arith, c.in_ok-merged.ensures.many, c.requires.number.1))
+
+pub transition_text-requires-clause-merged : goal.transition_text-requires-clause-merged
+transition_text-requires-clause-merged g c = let a = c.in_ok-merged.ensures.answer.allowed in (a.0, a.1)
+
+pub returns-in_err-merged : goal.returns-in_err-merged
+returns-in_err-merged g c =
+    handed_on (IsTransitionText c.args.number) c.args.prefs.now c.args.names.now HasItems (preference_limits c.args.prefs.now ++ log_limits c.args.names.now) _ _ c.in_err-merged.field-0.0 c.from_residual.result c.from_residual.ensures.1
+    c.in_err-merged.ensures.answer
 
 pub returns : goal.returns
 returns g c =
-    then_next HasItems HasItems (ArePreferences c.args.prefs.now) (λ rules. IsTransitionOf c.args.number (preference_word c.args.prefs.now) rules c.args.names.now) (preference_limits c.args.prefs.now) (log_limits c.args.names.now) _
-    (g.F.Files.files c.args.files.now) (g.F.Files.files c.preferences.new.files) (g.F.Files.files c.transition_under.new.files) c.in_ok-rules.rules c.transition_under.result refl c.in_ok-rules.ensures (λ rules h.
-    subst (λ r. Answers HasItems (IsTransitionOf c.args.number (preference_word c.args.prefs.now) r c.args.names.now) (log_limits c.args.names.now) (g.F.Files.files c.preferences.new.files) (g.F.Files.files c.transition_under.new.files) c.transition_under.result)
-    (c.deref.ensures.value ∙ h) (rw c.preference_word-word.ensures at c.transition_under.ensures))
+    made_of (IsTransitionText c.args.number) c.args.prefs.now c.args.names.now HasItems (preference_limits c.args.prefs.now ++ log_limits c.args.names.now) _ _ c.in_ok-merged.merged c.transition_text.result c.in_ok-merged.ensures.answer
+    c.transition_text.ensures
