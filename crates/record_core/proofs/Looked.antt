@@ -1,6 +1,6 @@
 -- How the touched nodes of a log stand on a tree, one after another.
 use Rattle.std.proofs.Common.{◌≡◌, ◌⊎◌, inl, inr, ◌≤◌, ◌<◌, ℕ, ◌+◌, ◌-◌, Bool, true, false, List, [], ◌∷◌, ◌++◌, length, take, get_or, Option, Some, None, Result, Ok, Err, refl, sym, ap, subst, ◌∙◌, arith, take_all, IsErrOf}
-use Rattle.std.specs.Prelude.{if◌then◌else◌, slice_get}
+use Rattle.std.specs.Prelude.{if◌then◌else◌, slice_get, IsSome}
 use Rattle.std.proofs.lemmas.List.{take_more}
 use Rattle.sync_path.specs.Paths.{Node, comes_before}
 use Rattle.sync_path.proofs.CallerLemmas.{before_irrefl, before_trans}
@@ -14,6 +14,7 @@ use Rattle.tree_port.specs.States.{Counts, IfHeld, NoneFell, NoneRefused, TreeSt
 use Rattle.tree_port.specs.declared.faults.TreeFault.{TreeFault}
 use Rattle.tree_port.specs.declared.faults.TreeFault.TheVariants as tree
 use Rattle.record_core.specs.declared.sealing.Standing.{Standing}
+use Rattle.record_core.specs.declared.sealing.Standing.TheVariants as standing
 use Rattle.record_core.specs.declared.sealing.Shown.{Shown}
 use Rattle.record_core.specs.declared.sealing.Shown.TheVariants as shown
 use Rattle.record_core.specs.Looks.{Asks, HoldsOld, IsAmong, IsFirstOf, IsFirstOut, IsWithin, Shows, StandsAs, StandsWell, IsRightLook}
@@ -151,6 +152,7 @@ pub record HasLooked (undone : Option Change) (xs : List Touch) (k : ℕ) (found
   pub changes : s1.counts.changes ≡ s0.counts.changes
   pub contents : s1.contents ≡ s0.contents
   pub within : IsWithin k found
+  pub has_last : found ≡ shown.Undone → IsSome undone
   pub known : WhereKnown s0 (λ m. Shows (at m) undone xs k found)
 
 pub look_begins : (undone : Option Change) (xs : List Touch) (s0 : TreeState) → HasLooked undone xs 0 shown.Done s0 s0
@@ -160,6 +162,7 @@ look_begins undone xs s0 = record {
   changes = refl;
   contents = refl;
   within = tt;
+  has_last = λ e. cc (e);
   known = go s0.contents;
 }
   where
@@ -171,16 +174,21 @@ look_begins undone xs s0 = record {
         none j low = omega arith
 
 pub look_on : (undone : Option Change) (xs : List Touch) (k : ℕ) (x : Touch) (here : Standing) (found next : Shown) (s0 s1 s2 : TreeState) → slice_get xs k ≡ Some x → HasLooked undone xs k found s0 s1 → Asks (Ok here) s1 s2 → WhereKnown s1 (λ m. IsRightLook (StandsAs (at m) undone x) (Ok here)) → IsWithin (k + 1) next →
-    ((t : Holding) (u : Option Change) (y : Touch) → slice_get xs k ≡ Some y → StandsAs t u y here → Shows t u xs k found → Shows t u xs (k + 1) next) → HasLooked undone xs (k + 1) next s0 s2
-look_on undone xs k x here found next s0 s1 s2 is looked asks stands within step = record {
+    (here ≡ standing.Undone → IsSome undone) → (next ≡ shown.Undone → (here ≡ standing.Undone) ⊎ (found ≡ shown.Undone)) → ((t : Holding) (u : Option Change) (y : Touch) → slice_get xs k ≡ Some y → StandsAs t u y here → Shows t u xs k found → Shows t u xs (k + 1) next) → HasLooked undone xs (k + 1) next s0 s2
+look_on undone xs k x here found next s0 s1 s2 is looked asks stands within here_open either step = record {
   later = fell_on s0.counts s1.counts s2.counts looked.later asks.counts.later;
   quiet = quiet_on s0.counts s1.counts s2.counts looked.quiet asks.counts.done;
   changes = asks.changes ∙ looked.changes;
   contents = asks.contents ∙ looked.contents;
   within = within;
+  has_last = λ e. one_of (either e);
   known = go s0.contents (subst (λ c. IfHeld c (λ m. StandsAs (at m) undone x here)) looked.contents stands) looked.known;
 }
   where
+    one_of : (here ≡ standing.Undone) ⊎ (found ≡ shown.Undone) → IsSome undone
+    one_of (inl e) = here_open e
+    one_of (inr e) = looked.has_last e
+
     go : (t : Option Store) → IfHeld t (λ m. StandsAs (at m) undone x here) → IfHeld t (λ m. Shows (at m) undone xs k found) → IfHeld t (λ m. Shows (at m) undone xs (k + 1) next)
     go None a b = tt
     go (Some m) a b = step (at m) undone x is a b

@@ -16,7 +16,7 @@ use Rattle.tree_port.specs.declared.faults.TreeFault.{TreeFault}
 use Rattle.tree_port.specs.declared.faults.TreeFault.TheVariants.{Failed, Denied, Memory}
 use Rattle.record_core.specs.declared.faults.RecordFault.{RecordFault}
 use Rattle.record_core.specs.Texts.{end_line_of, first_line, line_of, lines_of, open_text}
-use Rattle.record_core.specs.Recording.{AfterLines, Begins, Closes, Covers, GoesOn, InFirst, IsCut, IsRecorded, IsWritten, LeavesOpen, WritesLine}
+use Rattle.record_core.specs.Recording.{AfterLines, Begins, CarriesOut, Closes, Covers, GoesOn, InFirst, IsCut, IsPartDone, IsRecorded, IsWritten, LeavesOpen, WritesLine}
 
 -- what is known of both, by the contents alone
 abbrev pub BothHeld : Option SinkContents → Option SinkContents → Option Store → Option Store → (SinkContents → SinkContents → Store → Store → Type 0) → Type 0
@@ -116,6 +116,43 @@ refused c line a d t u s e fault same_line is puts =
     go x y n o h Failed (inr p) = done_so x y n o h p.1
     go x y n o h Denied p = stays x y n o h p.1
     go x y n o h Memory p = stays x y n o h p
+
+-- ---- the tree alone
+
+-- all of these commands are a first part of them
+pub whole_done : (cs : List Change) (m n : Store) → n ≡ stored m cs → IsPartDone cs m n
+whole_done cs m n h = record { done = cs; rest = []; all = sym (append-nil cs); tree = h }
+
+-- the commands of a first part, where more was still to come
+pub part_of : (cs rest : List Change) (m n : Store) → n ≡ stored m cs → IsPartDone (cs ++ rest) m n
+part_of cs rest m n h = record { done = cs; rest = rest; all = refl; tree = h }
+
+-- after some commands a first part of others, where more was still to come
+pub part_after : (cs ds rest whole : List Change) (m n o : Store) → (cs ++ ds) ++ rest ≡ whole → n ≡ stored m cs → IsPartDone ds n o → IsPartDone whole m o
+part_after cs ds rest whole m n o e p h = record {
+  done = cs ++ h.done;
+  rest = h.rest ++ rest;
+  all = sym e ∙ ap (λ l. (cs ++ l) ++ rest) h.all ∙ ap (λ l. l ++ rest) (sym (append_assoc cs h.done h.rest)) ∙ append_assoc (cs ++ h.done) h.rest rest;
+  tree = h.tree ∙ ap (λ z. stored z h.done) p ∙ sym (stored_more m cs h.done);
+}
+
+-- nothing was done
+pub none_done : (cs : List Change) (t : Option Store) (fault : RecordFault) → IfBoth t t (CarriesOut {T = Unit {0}} cs (Err fault))
+none_done cs t fault = both_alone (CarriesOut {T = Unit {0}} cs (Err fault)) t (λ m. part_of [] cs m m refl)
+
+-- the tree's call was done
+pub one_done : (c : Change) (t u : Option Store) (s s' : Unit {0}) → IfBoth t u (Puts {T = Unit {0}} ⊤ c.node c.new (Ok s)) → IfBoth t u (CarriesOut {T = Unit {0}} (c ∷ []) (Ok s'))
+one_done c t u s s' puts = both_more t u puts (λ m n p. p.1)
+
+-- the tree's call was refused
+pub one_refused : (c : Change) (t u : Option Store) (e : TreeFault) (fault : RecordFault) → IfBoth t u (Puts {T = Unit {0}} ⊤ c.node c.new (Err e)) → IfBoth t u (CarriesOut {T = Unit {0}} (c ∷ []) (Err fault))
+one_refused c t u e fault puts = both_more t u puts (λ m n p. go m n e p)
+  where
+    go : (m n : Store) (e : TreeFault) → Puts {T = Unit {0}} ⊤ c.node c.new (Err e) m n → IsPartDone (c ∷ []) m n
+    go m n Failed (inl p) = part_of [] (c ∷ []) m n p
+    go m n Failed (inr p) = part_of (c ∷ []) [] m n p.1
+    go m n Denied p = part_of [] (c ∷ []) m n p.1
+    go m n Memory p = part_of [] (c ∷ []) m n p
 
 -- ---- a line, call by call
 

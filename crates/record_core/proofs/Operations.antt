@@ -1,10 +1,10 @@
 -- An operation: its plan, its size and its commands, and the operations one after another.
-use Rattle.std.proofs.Common.{◌≡◌, inr, ℕ, Bool, true, false, List, [], ◌∷◌, ◌++◌, Option, Some, None, Ok, Err, refl, sym, ap, subst, ◌∙◌, arith}
-use Rattle.std.specs.Prelude.{⊤, Result, if◌then◌else◌}
+use Rattle.std.proofs.Common.{◌≡◌, inr, ℕ, Bool, true, false, List, [], ◌∷◌, ◌++◌, Option, Some, None, Ok, Err, refl, sym, ap, subst, ◌∙◌, arith, append_assoc}
+use Rattle.std.specs.Prelude.{Result, if◌then◌else◌}
 use Rattle.std.specs.List.{All}
 use Rattle.sync_command.specs.declared.values.Version.{Version}
 use Rattle.sync_command.specs.Changes.{Change}
-use Rattle.sync_command.specs.Maps.{IsTreeMap, Store, at}
+use Rattle.sync_command.specs.Maps.{IsTreeMap, Store, at, stored}
 use Rattle.std.proofs.lemmas.List.Elements.{All-cons}
 use Rattle.sync_command.specs.Trees.{Holding, put}
 use Rattle.sync_port.specs.States.{IfBoth}
@@ -18,11 +18,11 @@ use Rattle.record_core.specs.declared.log_size.LogSize.{LogSize}
 use Rattle.record_core.specs.declared.ops.Op.{Op}
 use Rattle.record_core.specs.declared.steps.Step.{Step}
 use Rattle.record_core.specs.Meanings.{commands_of, first_that_applies, is_labelled, meaning, nodes_of, tests, unless}
-use Rattle.record_core.specs.Plans.{HasNames, IsSizeOf, Measures, OfEachLog, OpGoesOn, OpIsCut, RecordsOp, steps_of}
-use Rattle.record_core.specs.Recording.{GoesOn, IsRecorded, LeavesOpen, StopsInside}
+use Rattle.record_core.specs.Plans.{AnswersOp, CarriesOutOp, HasNames, IsSizeOf, Measures, OfEachLog, OpGoesOn, OpIsCut, OpRecorded, steps_of}
+use Rattle.record_core.specs.Recording.{CarriesOut, GoesOn, IsPartDone, IsRecorded, LeavesOpen, StopsInside}
 use Rattle.record_core.specs.Steps.{AreSteady, CanWalk, IsFull, change_of, changes_of}
 use Rattle.record_core.specs.Texts.{is_within}
-use Rattle.record_core.proofs.OneCommand.{BothHeld}
+use Rattle.record_core.proofs.OneCommand.{BothHeld, part_after, stored_more}
 use Rattle.record_core.proofs.Planned.{can_walk, steps_commands}
 use Rattle.record_core.proofs.Walks.{held_later}
 
@@ -70,37 +70,77 @@ plan_full t u version o steps l same plan e = subst (λ c. IfHeld c (λ m. All (
 
 -- ---- the commands
 
+-- what was planned and measured, and is recorded
+op_recorded : (version : Version) (o : Op) (steps l : List Step) (size next : LogSize) (n : Store) (done : List Change) (R : List Change → Type 0) → l ≡ steps → IsPlan version o steps n → OfEachLog (Measures size (changes_of (at n) l)) size (Ok next)
+    → IsSizeOf version done size → R (done ++ changes_of (at n) steps) → OpRecorded version o next done n R
+op_recorded version o steps l size next n done R e plan sizes sized recorded = let fits = sizes version done sized in record {
+  commands = changes_of (at n) steps;
+  meant = record { means = plan.0; within = subst (λ z. is_within version (done ++ changes_of (at n) z) ≡ true) e fits.0 };
+  recorded = recorded;
+  sized = subst (λ z. IsSizeOf version (done ++ changes_of (at n) z) next) e fits.1;
+}
+
+-- the same, where it is cut short
+op_stopped : (version : Version) (number : ℕ) (o : Op) (steps l : List Step) (size next old : LogSize) (fault : RecordFault) (n : Store) (done : List Change) (R C : List Change → Type 0) → l ≡ steps → IsPlan version o steps n
+    → OfEachLog (Measures size (changes_of (at n) l)) size (Ok next) → StopsInside {T = Unit {0}} (Err fault) → IsSizeOf version done size → ((rest : List Change) → C (done ++ (changes_of (at n) steps ++ rest))) → AnswersOp version number o old (Err fault) done n R C
+op_stopped version number o steps l size next old fault n done R C e plan sizes stops sized cut = go fault stops
+  where
+    is_cut : OpIsCut version o done n C
+    is_cut = let fits = sizes version done sized in record {
+      commands = changes_of (at n) steps;
+      meant = record { means = plan.0; within = subst (λ z. is_within version (done ++ changes_of (at n) z) ≡ true) e fits.0 };
+      cut = cut;
+    }
+
+    go : (fault : RecordFault) → StopsInside {T = Unit {0}} (Err fault) → AnswersOp version number o old (Err fault) done n R C
+    go (OpRefused j why) stops = absurd stops
+    go TooLarge stops = absurd stops
+    go TreeDenied stops = absurd stops
+    go WriteFault stops = inr is_cut
+    go TreeFailed stops = inr is_cut
+    go Memory stops = inr is_cut
+
+-- the plan and its size, and what is known of the tree later
+abbrev IsReady : Version → Op → List Step → List Step → LogSize → LogSize → Store → Type 0
+IsReady version o steps l size next m = IsPlan version o steps m × OfEachLog (Measures size (changes_of (at m) l)) size (Ok next)
+
+ready : (t u : Option Store) (version : Version) (o : Op) (steps l : List Step) (size next : LogSize) → u ≡ t → IfHeld t (IsPlan version o steps) → IfHeld u (λ m. OfEachLog (Measures size (changes_of (at m) l)) size (Ok next)) → IfHeld t (IsReady version o steps l size next)
+ready t u version o steps l size next e plan sizes = held_both {R = IsReady version o steps l size next} t plan (subst (λ c. IfHeld c (λ m. OfEachLog (Measures size (changes_of (at m) l)) size (Ok next))) e sizes) (λ m p s. (p, s))
+
+-- the same, and of the refusals that come before a first command none comes
+stopping : (t u v : Option Store) (version : Version) (o : Op) (steps l : List Step) (size next : LogSize) (fault : RecordFault) → u ≡ t → v ≡ u → IfHeld t (IsPlan version o steps) → IfHeld u (λ m. OfEachLog (Measures size (changes_of (at m) l)) size (Ok next))
+    → IfHeld v (λ m. StopsInside {T = Unit {0}} (Err fault)) → IfHeld t (λ m. IsReady version o steps l size next m × StopsInside {T = Unit {0}} (Err fault))
+stopping t u v version o steps l size next fault eu ev plan sizes stops =
+    held_both {R = λ m. IsReady version o steps l size next m × StopsInside {T = Unit {0}} (Err fault)} t (ready t u version o steps l size next eu plan sizes) (subst (λ c. IfHeld c (λ m. StopsInside {T = Unit {0}} (Err fault))) (ev ∙ eu) stops) (λ m p z. (p, z))
+
 pub op_done : (a d : Option SinkContents) (t u v w : Option Store) (version : Version) (number : ℕ) (o : Op) (steps l k : List Step) (size next : LogSize) → u ≡ t → v ≡ u → l ≡ steps → k ≡ steps → IfHeld t (IsPlan version o steps)
     → IfHeld u (λ m. OfEachLog (Measures size (changes_of (at m) l)) size (Ok next)) → BothHeld a d v w (λ x y m n. GoesOn {T = Unit {0}} (changes_of (at m) k) (Ok tt) x y m n) → BothHeld a d t w (OpGoesOn version number o size next (Ok tt))
 op_done a d t u v w version number o steps l k size next eu ev el ek plan sizes recorded = both_more a d (subst (λ c. BothHeld a d c w (λ x y m n. GoesOn {T = Unit {0}} (changes_of (at m) k) (Ok tt) x y m n)) (ev ∙ eu) recorded)
-    (λ x y f. held_later t w (held_both {R = λ m. IsPlan version o steps m × OfEachLog (Measures size (changes_of (at m) l)) size (Ok next)} t plan (subst (λ c. IfHeld c (λ m. OfEachLog (Measures size (changes_of (at m) l)) size (Ok next))) eu sizes) (λ m p s. (p, s))) f
-    (λ n o' (p, s) g done w' m is sized. let fits = s version done sized in record {
-      commands = changes_of (at n) steps;
-      meant = record { means = p.0; within = subst (λ z. is_within version (done ++ changes_of (at n) z) ≡ true) el fits.0 };
-      recorded = subst (λ z. IsRecorded version (done ++ changes_of (at n) z) w' y m o') ek (g version done w' m is);
-      sized = subst (λ z. IsSizeOf version (done ++ changes_of (at n) z) next) el fits.1;
-    }))
+    (λ x y f. held_later t w (ready t u version o steps l size next eu plan sizes) f
+    (λ n o' (p, s) g done w' m is sized.
+    op_recorded version o steps l size next n done (λ cs. IsRecorded version cs w' y m o') el p s sized (subst (λ z. IsRecorded version (done ++ changes_of (at n) z) w' y m o') ek (g version done w' m is))))
 
-cut_case : (version : Version) (number : ℕ) (o : Op) (size : LogSize) (fault : RecordFault) (done : List Change) (w y : SinkContents) (m n k : Store) → StopsInside {T = Unit {0}} (Err fault) → OpIsCut version o done w y m n k → RecordsOp version number o size (Err fault) done w y m n k
-cut_case version number o size (OpRefused j why) done w y m n k stops h = absurd stops
-cut_case version number o size TooLarge done w y m n k stops h = absurd stops
-cut_case version number o size TreeDenied done w y m n k stops h = absurd stops
-cut_case version number o size WriteFault done w y m n k stops h = inr h
-cut_case version number o size TreeFailed done w y m n k stops h = inr h
-cut_case version number o size Memory done w y m n k stops h = inr h
+pub op_done_tree : (t u v w : Option Store) (version : Version) (number : ℕ) (o : Op) (steps l k : List Step) (size next : LogSize) → u ≡ t → v ≡ u → l ≡ steps → k ≡ steps → IfHeld t (IsPlan version o steps)
+    → IfHeld u (λ m. OfEachLog (Measures size (changes_of (at m) l)) size (Ok next)) → IfBoth v w (λ m n. CarriesOut {T = Unit {0}} (changes_of (at m) k) (Ok tt) m n) → IfBoth t w (CarriesOutOp version number o size next (Ok tt))
+op_done_tree t u v w version number o steps l k size next eu ev el ek plan sizes made = held_later t w (ready t u version o steps l size next eu plan sizes) (subst (λ c. IfBoth c w (λ m n. CarriesOut {T = Unit {0}} (changes_of (at m) k) (Ok tt) m n)) (ev ∙ eu) made)
+    (λ n o' (p, s) h done m is sized.
+    op_recorded version o steps l size next n done (λ cs. o' ≡ stored m cs) el p s sized
+    (subst (λ z. o' ≡ stored m (done ++ changes_of (at n) z)) ek (h ∙ ap (λ z. stored z (changes_of (at n) k)) is ∙ sym (stored_more m done (changes_of (at n) k)))))
 
 pub op_cut : (a d : Option SinkContents) (t u v w : Option Store) (version : Version) (number : ℕ) (o : Op) (steps l k : List Step) (size next old : LogSize) (fault : RecordFault) (r : Result (Unit {0}) RecordFault) → u ≡ t → v ≡ u → l ≡ steps → k ≡ steps → IfHeld t (IsPlan version o steps)
     → IfHeld u (λ m. OfEachLog (Measures size (changes_of (at m) l)) size (Ok next)) → IfHeld v (λ m. StopsInside {T = Unit {0}} (Err fault)) → BothHeld a d v w (λ x y m n. GoesOn {T = Unit {0}} (changes_of (at m) k) (Err fault) x y m n) → r ≡ Err fault
     → BothHeld a d t w (OpGoesOn version number o size old r)
 op_cut a d t u v w version number o steps l k size next old fault r eu ev el ek plan sizes stops recorded e = subst (λ r. BothHeld a d t w (OpGoesOn version number o size old r)) (sym e) (both_more a d (subst (λ c. BothHeld a d c w (λ x y m n. GoesOn {T = Unit {0}} (changes_of (at m) k) (Err fault) x y m n)) (ev ∙ eu) recorded)
-    (λ x y f. held_later t w
-    (held_both {Q = λ m. OfEachLog (Measures size (changes_of (at m) l)) size (Ok next) × StopsInside {T = Unit {0}} (Err fault)} {R = λ m. IsPlan version o steps m × (OfEachLog (Measures size (changes_of (at m) l)) size (Ok next) × StopsInside {T = Unit {0}} (Err fault))} t plan
-    (held_both t (subst (λ c. IfHeld c (λ m. OfEachLog (Measures size (changes_of (at m) l)) size (Ok next))) eu sizes) (subst (λ c. IfHeld c (λ m. StopsInside {T = Unit {0}} (Err fault))) (ev ∙ eu) stops) (λ m s z. (s, z))) (λ m p s. (p, s))) f
-    (λ n o' (p, (s, z)) g done w' m is sized. let fits = s version done sized in cut_case version number o old fault done w' y m n o' z (record {
-      commands = changes_of (at n) steps;
-      meant = record { means = p.0; within = subst (λ z. is_within version (done ++ changes_of (at n) z) ≡ true) el fits.0 };
-      cut = λ rest. subst (λ z. LeavesOpen version (done ++ (changes_of (at n) z ++ rest)) w' y m o') ek (g version done w' m is rest);
-    }))))
+    (λ x y f. held_later t w (stopping t u v version o steps l size next fault eu ev plan sizes stops) f
+    (λ n o' (p, z) g done w' m is sized.
+    op_stopped version number o steps l size next old fault n done (λ cs. IsRecorded version cs w' y m o') (λ cs. LeavesOpen version cs w' y m o') el p.0 p.1 z sized
+    (λ rest. subst (λ z. LeavesOpen version (done ++ (changes_of (at n) z ++ rest)) w' y m o') ek (g version done w' m is rest)))))
 
-pub tree_known : (P : Store → Store → Type 0) (t u v w : Option Store) → u ≡ t → v ≡ u → IfBoth v w P → IfBoth t w (λ m n. ⊤)
-tree_known P t u v w eu ev h = subst (λ c. IfBoth c w (λ m n. ⊤)) (ev ∙ eu) (both_more v w h (λ m n p. tt))
+pub op_cut_tree : (t u v w : Option Store) (version : Version) (number : ℕ) (o : Op) (steps l k : List Step) (size next old : LogSize) (fault : RecordFault) (r : Result (Unit {0}) RecordFault) → u ≡ t → v ≡ u → l ≡ steps → k ≡ steps → IfHeld t (IsPlan version o steps)
+    → IfHeld u (λ m. OfEachLog (Measures size (changes_of (at m) l)) size (Ok next)) → IfHeld v (λ m. StopsInside {T = Unit {0}} (Err fault)) → IfBoth v w (λ m n. CarriesOut {T = Unit {0}} (changes_of (at m) k) (Err fault) m n) → r ≡ Err fault
+    → IfBoth t w (CarriesOutOp version number o size old r)
+op_cut_tree t u v w version number o steps l k size next old fault r eu ev el ek plan sizes stops made e = subst (λ r. IfBoth t w (CarriesOutOp version number o size old r)) (sym e)
+    (held_later t w (stopping t u v version o steps l size next fault eu ev plan sizes stops) (subst (λ c. IfBoth c w (λ m n. CarriesOut {T = Unit {0}} (changes_of (at m) k) (Err fault) m n)) (ev ∙ eu) made)
+    (λ n o' (p, z) h done m is sized.
+    op_stopped version number o steps l size next old fault n done (λ cs. o' ≡ stored m cs) (λ cs. IsPartDone cs m o') el p.0 p.1 z sized
+    (λ rest. part_after done (changes_of (at n) k) rest (done ++ (changes_of (at n) steps ++ rest)) m n o' (append_assoc done (changes_of (at n) k) rest ∙ ap (λ z. done ++ (changes_of (at n) z ++ rest)) ek) is h)))

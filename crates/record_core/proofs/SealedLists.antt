@@ -1,6 +1,6 @@
 -- What the touched nodes of a log show of its sealed list.
 use Rattle.std.proofs.Common.{◌≡◌, ◌⊎◌, inl, inr, ◌<◌, ◌≤◌, get_or, ℕ, zero, suc, ◌-◌, Bool, true, false, List, [], ◌∷◌, ◌++◌, length, Option, Some, None, Ok, refl, sym, ap, subst, ◌∙◌, arith}
-use Rattle.std.specs.Prelude.{if◌then◌else◌, slice_get, is_none}
+use Rattle.std.specs.Prelude.{if◌then◌else◌, slice_get, is_none, IsSome}
 use Rattle.std.specs.Option.{option_map}
 use Rattle.std.specs.List.{AllByRecursion}
 use Rattle.std.proofs.lemmas.List.{length-map}
@@ -21,7 +21,7 @@ use Rattle.record_core.specs.declared.faults.SealFault.TheVariants.{Text, Broken
 use Rattle.record_core.specs.declared.sealing.Shown.{Shown}
 use Rattle.record_core.specs.declared.sealing.Shown.TheVariants as shown
 use Rattle.record_core.specs.Looks.{HoldsOld, IsAmong, IsDiverged, IsFirstOut, Shows, StandsWell, IsRightLook, open_command}
-use Rattle.record_core.specs.Seals.{Diverges, FailsLog, FailsText, IsInOrder, IsLogOf, IsSealed, OpenLog, SealsLog}
+use Rattle.record_core.specs.Seals.{Diverges, FailsLog, FailsText, IsAllOrAllButLast, IsInOrder, IsLogOf, IsSealed, OpenLog, SealsLog}
 
 -- ---- lists
 
@@ -207,17 +207,28 @@ all_done log cs ds es ended s u found held e b f g st is f' shows =
     record {
       taken = st'.taken;
       change = st'.change;
+      which = inl (sym e);
       is_sealed = subst (λ l. IfHeld held (λ m. IsSealed log (at m) l)) e (held_as held (λ m h. sealed_whole log s st' (at m) h) (shows_as held u (open_command log.ended log.commands) s.touched (length s.touched) found shown.Done (undone_as log cs es ended u e b g is) f' shows));
     }
 
+-- a log that has an open command, and the list without it
+which_open : (log : OpenLog) (rest : List Change) → ((c : Change) → open_command false log.commands ≡ Some c → log.commands ≡ rest ++ c ∷ []) → IsSome (open_command log.ended log.commands) → IsAllOrAllButLast log rest
+which_open log rest prefix some = go (open_command log.ended log.commands) refl some
+  where
+    go : (o : Option Change) → open_command log.ended log.commands ≡ o → IsSome o → IsAllOrAllButLast log rest
+    go None e h = cc (h)
+    go (Some c) e h = let k = is_open log.ended log.commands c e in inr (k.0, (c, prefix c k.1))
+
 pub last_undone : (log : OpenLog) (cs ds es rest : List Change) (ended : Bool) (s : Sum) (u : Option Change) (found : Shown) (held : Option Store) → log.commands ≡ cs → log.ended ≡ ended → ds ≡ cs → es ≡ cs → StandsFor s ds → u ≡ open_command ended es → found ≡ shown.Undone →
-    IfHeld held (λ m. IsRightLook (Shows (at m) u s.touched (length s.touched)) (Ok found)) → ((c : Change) → open_command false cs ≡ Some c → cs ≡ rest ++ c ∷ []) → SealsLog log held rest
-last_undone log cs ds es rest ended s u found held e b f g st is f' shows prefix =
+    IfHeld held (λ m. IsRightLook (Shows (at m) u s.touched (length s.touched)) (Ok found)) → IsSome u → ((c : Change) → open_command false cs ≡ Some c → cs ≡ rest ++ c ∷ []) → SealsLog log held rest
+last_undone log cs ds es rest ended s u found held e b f g st is f' shows some prefix =
     let st' = stands_as log s cs ds e f st in
+    let last = subst (λ (l : List Change). (c : Change) → open_command false l ≡ Some c → l ≡ rest ++ c ∷ []) (sym e) prefix in
     record {
       taken = st'.taken;
       change = st'.change;
-      is_sealed = held_as held (λ m h. sealed_prefix log s st' (at m) rest (subst (λ (l : List Change). (c : Change) → open_command false l ≡ Some c → l ≡ rest ++ c ∷ []) (sym e) prefix) h)
+      which = which_open log rest last (subst IsSome (undone_as log cs es ended u e b g is) some);
+      is_sealed = held_as held (λ m h. sealed_prefix log s st' (at m) rest last h)
           (shows_as held u (open_command log.ended log.commands) s.touched (length s.touched) found shown.Undone (undone_as log cs es ended u e b g is) f' shows);
     }
 

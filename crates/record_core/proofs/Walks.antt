@@ -16,9 +16,9 @@ use Rattle.record_core.specs.declared.faults.RecordFault.{RecordFault}
 use Rattle.record_core.specs.declared.steps.Step.{Step}
 use Rattle.record_core.specs.declared.steps.Step.TheVariants.{Give, Make, Clear}
 use Rattle.record_core.specs.Changing.{CanChange, CanRecord}
-use Rattle.record_core.specs.Recording.{Ends, GoesOn, HasCause, IfBothKnown, IsRecorded, LeavesOpen}
+use Rattle.record_core.specs.Recording.{CarriesOut, Ends, GoesOn, HasCause, IfBothKnown, IsRecorded, LeavesOpen}
 use Rattle.record_core.specs.Steps.{AreSteady, CanStep, CanWalk, IsFull, IsSame, change_of, changes_of}
-use Rattle.record_core.proofs.OneCommand.{BothHeld, stays_open, stored_more}
+use Rattle.record_core.proofs.OneCommand.{BothHeld, part_after, part_of, stays_open, stored_more}
 
 -- ---- parts of a recording one after another
 
@@ -195,20 +195,28 @@ walk_on steps k j s a b d t u v e can low is w cause tree both = subst (λ j. Is
 
 -- ---- the exits
 
+-- the commands of the first steps, that of the next one and those still to come
+whole_walk : (steps : List Step) (k : ℕ) (s : Step) (m n : Store) → k < length steps → s ≡ get_or steps k s → SameNext s m n
+    → (first_of steps k m ++ change_of (at n) s ∷ []) ++ changes_of (at m) (drop (suc k) steps) ≡ changes_of (at m) steps
+whole_walk steps k s m n low is h = ap (λ x. (first_of steps k m ++ x ∷ []) ++ changes_of (at m) (drop (suc k) steps)) h ∙ ap (λ l. l ++ changes_of (at m) (drop (suc k) steps)) (sym (first_more steps k s m low is)) ∙ rest_of steps (suc k) m
+
 pub walk_cut : (steps : List Step) (k : ℕ) (s : Step) (a b d : SinkState) (t u v : TreeState) (fault : RecordFault) (r : Result (Unit {0}) RecordFault) → IfHeld t.contents (λ m. CanWalk m steps) → k < length steps → s ≡ get_or steps k s
     → IsWalked steps k a b t u → HasCause {T = Unit {0}} (Err fault) b d u v → IfBothKnown b d u v (λ x y n o. GoesOn {T = Unit {0}} (change_of (at n) s ∷ []) (Err fault) x y n o) → r ≡ Err fault → IfBothKnown a d t v (λ x y m n. GoesOn (changes_of (at m) steps) r x y m n)
 walk_cut steps k s a b d t u v fault r can low is w cause both e = subst (λ r. IfBothKnown a d t v (λ x y m n. GoesOn (changes_of (at m) steps) r x y m n)) (sym e)
     (both_then {P = λ x y. IfBoth t.contents u.contents (λ m n. GoesOn {T = Unit {0}} (first_of steps k m) (Ok tt) x y m n)} {Q = λ y z. IfBoth u.contents v.contents (λ n o. GoesOn {T = Unit {0}} (change_of (at n) s ∷ []) (Err fault) y z n o)}
     a.contents b.contents d.contents w.both both
     (λ x y z p q. both_then t.contents u.contents v.contents (both_and {R = λ m n. GoesOn {T = Unit {0}} (first_of steps k m) (Ok tt) x y m n × SameNext s m n} t.contents u.contents p same (λ m n f g. (f, g))) q
-    (λ m n o f g. subst (λ l. GoesOn {T = Unit {0}} l (Err fault) x z m o) (whole m n f.1)
+    (λ m n o f g. subst (λ l. GoesOn {T = Unit {0}} l (Err fault) x z m o) (whole_walk steps k s m n low is f.1)
     (cut_in_part (first_of steps k m ++ change_of (at n) s ∷ []) (changes_of (at m) (drop (suc k) steps)) x z m o fault (goes_on (first_of steps k m) (change_of (at n) s ∷ []) x y z m n o (Err fault) f.0 g)))))
   where
     same : IfBoth t.contents u.contents (SameNext s)
     same = same_next steps k s a b t u can w low is
 
-    whole : (m n : Store) → SameNext s m n → (first_of steps k m ++ change_of (at n) s ∷ []) ++ changes_of (at m) (drop (suc k) steps) ≡ changes_of (at m) steps
-    whole m n h = ap (λ x. (first_of steps k m ++ x ∷ []) ++ changes_of (at m) (drop (suc k) steps)) h ∙ ap (λ l. l ++ changes_of (at m) (drop (suc k) steps)) (sym (first_more steps k s m low is)) ∙ rest_of steps (suc k) m
+pub walk_cut_tree : (steps : List Step) (k : ℕ) (s : Step) (a b : SinkState) (t u : TreeState) (v : Option Store) (fault : RecordFault) (r : Result (Unit {0}) RecordFault) → IfHeld t.contents (λ m. CanWalk m steps) → k < length steps → s ≡ get_or steps k s → IsWalked steps k a b t u
+    → IfBoth u.contents v (λ n o. CarriesOut {T = Unit {0}} (change_of (at n) s ∷ []) (Err fault) n o) → r ≡ Err fault → IfBoth t.contents v (λ m n. CarriesOut (changes_of (at m) steps) r m n)
+walk_cut_tree steps k s a b t u v fault r can low is w tree e = subst (λ r. IfBoth t.contents v (λ m n. CarriesOut (changes_of (at m) steps) r m n)) (sym e)
+    (both_then t.contents u.contents v (both_and {R = λ m n. (n ≡ stored m (first_of steps k m)) × SameNext s m n} t.contents u.contents w.tree (same_next steps k s a b t u can w low is) (λ m n p q. (p, q))) tree
+    (λ m n o p h. part_after (first_of steps k m) (change_of (at n) s ∷ []) (changes_of (at m) (drop (suc k) steps)) (changes_of (at m) steps) m n o (whole_walk steps k s m n low is p.1) p.0 h))
 
 pub walk_done_tree : (steps : List Step) (k : ℕ) (a b : SinkState) (t u : TreeState) → k ≡ length steps → IsWalked steps k a b t u → IfTreeKnown t u (λ m n. n ≡ stored m (changes_of (at m) steps))
 walk_done_tree steps k a b t u e w = both_more t.contents u.contents w.tree (λ m n p. p ∙ ap (stored m) (ap (λ k. first_of steps k m) e ∙ first_all steps m))
@@ -220,6 +228,10 @@ walk_done steps k a b t u e w = both_more a.contents b.contents w.both (λ x y p
 -- ---- one step
 
 -- it was not read
+pub step_undone : (s : Step) (t u : Option Store) (fault : RecordFault) → u ≡ t → IfBoth t u (λ m n. CarriesOut {T = Unit {0}} (change_of (at m) s ∷ []) (Err fault) m n)
+step_undone s t u fault e = subst (λ c. IfBoth t c (λ m n. CarriesOut {T = Unit {0}} (change_of (at m) s ∷ []) (Err fault) m n)) (sym e)
+    (both_alone (λ m n. CarriesOut {T = Unit {0}} (change_of (at m) s ∷ []) (Err fault) m n) t (λ m. part_of [] (change_of (at m) s ∷ []) m m refl))
+
 pub step_unread : (s : Step) (a : Option SinkContents) (t u : Option Store) (fault : RecordFault) → u ≡ t → BothHeld a a t u (λ x y m n. GoesOn {T = Unit {0}} (change_of (at m) s ∷ []) (Err fault) x y m n)
 step_unread s a t u fault e = both_alone (λ x y. IfBoth t u (λ m n. GoesOn {T = Unit {0}} (change_of (at m) s ∷ []) (Err fault) x y m n)) a (λ x.
     subst (λ c. IfBoth t c (λ m n. GoesOn {T = Unit {0}} (change_of (at m) s ∷ []) (Err fault) x x m n)) (sym e)

@@ -8,7 +8,7 @@ use Rattle.sync_command.specs.declared.values.Value.{Value}
 use Rattle.sync_command.specs.Values.{is_empty, same_value}
 use Rattle.sync_command.specs.declared.values.Version.{Version}
 use Rattle.sync_command.specs.Changes.{Change}
-use Rattle.sync_command.specs.Maps.{Store, at}
+use Rattle.sync_command.specs.Maps.{Store, at, stored}
 use Rattle.sync_port.specs.Ports.{SinkContents}
 use Rattle.record_core.specs.declared.faults.RecordFault.{RecordFault}
 use Rattle.record_core.specs.declared.faults.RecordFault.TheVariants.{OpRefused, TreeFailed, TreeDenied, WriteFault, TooLarge, Memory}
@@ -20,7 +20,7 @@ use Rattle.record_core.specs.declared.log_size.LogSize.{LogSize}
 use Rattle.record_core.specs.declared.steps.Step.{Step}
 use Rattle.record_core.specs.declared.steps.Step.TheVariants.{Give, Make, Clear}
 use Rattle.record_core.specs.Meanings.{Nodes, backwards, first_that_applies, meaning, nodes_of, place_tests, subtree, tests, to_value}
-use Rattle.record_core.specs.Recording.{IsRecorded, LeavesOpen}
+use Rattle.record_core.specs.Recording.{IsPartDone, IsRecorded, LeavesOpen}
 use Rattle.record_core.specs.Steps.{CanWalk, changes_of}
 use Rattle.record_core.specs.Texts.{is_within, open_text}
 
@@ -151,41 +151,49 @@ pub record IsMeant (version : Version) (o : Op) (n : Store) (done cs : List Chan
   pub within : is_within version (done ++ cs) ≡ true
 
 -- an operation that was recorded after these commands
-pub record OpRecorded (version : Version) (o : Op) (size : LogSize) (done : List Change) (w y : SinkContents) (m n k : Store) : Type 0 where
+pub record OpRecorded (version : Version) (o : Op) (size : LogSize) (done : List Change) (n : Store) (Recorded : List Change → Type 0) : Type 0 where
   pub commands : List Change
   pub meant : IsMeant version o n done commands
-  pub recorded : IsRecorded version (done ++ commands) w y m k
+  pub recorded : Recorded (done ++ commands)
   pub sized : IsSizeOf version (done ++ commands) size
 
 -- an operation that was refused before its first command, with the reason
-pub record OpIsRefused (version : Version) (o : Op) (why : Why) (done : List Change) (w y : SinkContents) (m n k : Store) : Type 0 where
+pub record OpIsRefused (version : Version) (o : Op) (why : Why) (done : List Change) (n : Store) (Recorded : List Change → Type 0) : Type 0 where
   pub means : meaning version (nodes_of n) o ≡ Err why
-  pub recorded : IsRecorded version done w y m k
+  pub recorded : Recorded done
 
 -- an operation that would take the log past its limits
-pub record OpIsLarge (version : Version) (o : Op) (done : List Change) (w y : SinkContents) (m n k : Store) : Type 0 where
+pub record OpIsLarge (version : Version) (o : Op) (done : List Change) (n : Store) (Recorded : List Change → Type 0) : Type 0 where
   pub commands : List Change
   pub means : meaning version (nodes_of n) o ≡ Ok commands
   pub large : is_within version (done ++ commands) ≡ false
-  pub recorded : IsRecorded version done w y m k
+  pub recorded : Recorded done
 
 -- an operation that was cut short among its commands
-pub record OpIsCut (version : Version) (o : Op) (done : List Change) (w y : SinkContents) (m n k : Store) : Type 0 where
+pub record OpIsCut (version : Version) (o : Op) (done : List Change) (n : Store) (Cut : List Change → Type 0) : Type 0 where
   pub commands : List Change
   pub meant : IsMeant version o n done commands
-  pub cut : (rest : List Change) → LeavesOpen version (done ++ (commands ++ rest)) w y m k
+  pub cut : (rest : List Change) → Cut (done ++ (commands ++ rest))
 
--- what an operation answers after these commands
-abbrev pub RecordsOp : Version → ℕ → Op → LogSize → Result (Unit {0}) RecordFault → List Change → SinkContents → SinkContents → Store → Store → Store → Type 0
-RecordsOp version number o next (Ok u) done w y m n k = OpRecorded version o next done w y m n k
-RecordsOp version number o next (Err (OpRefused j why)) done w y m n k = (j ≡ number) × OpIsRefused version o why done w y m n k
-RecordsOp version number o next (Err TooLarge) done w y m n k = OpIsLarge version o done w y m n k
-RecordsOp version number o next (Err TreeDenied) done w y m n k = ⊥
-RecordsOp version number o next (Err WriteFault) done w y m n k = IsRecorded version done w y m k ⊎ OpIsCut version o done w y m n k
-RecordsOp version number o next (Err TreeFailed) done w y m n k = IsRecorded version done w y m k ⊎ OpIsCut version o done w y m n k
-RecordsOp version number o next (Err Memory) done w y m n k = IsRecorded version done w y m k ⊎ OpIsCut version o done w y m n k
+-- What an operation answers after these commands, on a tree that holds n: by `Recorded` of the commands that were recorded, and by
+-- `Cut` of those among which the recording was cut short.
+abbrev pub AnswersOp : Version → ℕ → Op → LogSize → Result (Unit {0}) RecordFault → List Change → Store → (List Change → Type 0) → (List Change → Type 0) → Type 0
+AnswersOp version number o next (Ok u) done n Recorded Cut = OpRecorded version o next done n Recorded
+AnswersOp version number o next (Err (OpRefused j why)) done n Recorded Cut = (j ≡ number) × OpIsRefused version o why done n Recorded
+AnswersOp version number o next (Err TooLarge) done n Recorded Cut = OpIsLarge version o done n Recorded
+AnswersOp version number o next (Err TreeDenied) done n Recorded Cut = ⊥
+AnswersOp version number o next (Err WriteFault) done n Recorded Cut = Recorded done ⊎ OpIsCut version o done n Cut
+AnswersOp version number o next (Err TreeFailed) done n Recorded Cut = Recorded done ⊎ OpIsCut version o done n Cut
+AnswersOp version number o next (Err Memory) done n Recorded Cut = Recorded done ⊎ OpIsCut version o done n Cut
 
--- the same after whatever was recorded before
+-- where sink and tree are known, after whatever was recorded before
 abbrev pub OpGoesOn : Version → ℕ → Op → LogSize → LogSize → Result (Unit {0}) RecordFault → SinkContents → SinkContents → Store → Store → Type 0
 OpGoesOn version number o size next result x y n k =
-    (done : List Change) (w : SinkContents) (m : Store) → IsRecorded version done w x m n → IsSizeOf version done size → RecordsOp version number o next result done w y m n k
+    (done : List Change) (w : SinkContents) (m : Store) → IsRecorded version done w x m n → IsSizeOf version done size →
+    AnswersOp version number o next result done n (λ cs. IsRecorded version cs w y m k) (λ cs. LeavesOpen version cs w y m k)
+
+-- where the tree is known, whatever is known of the sink
+abbrev pub CarriesOutOp : Version → ℕ → Op → LogSize → LogSize → Result (Unit {0}) RecordFault → Store → Store → Type 0
+CarriesOutOp version number o size next result n k =
+    (done : List Change) (m : Store) → n ≡ stored m done → IsSizeOf version done size →
+    AnswersOp version number o next result done n (λ cs. k ≡ stored m cs) (λ cs. IsPartDone cs m k)

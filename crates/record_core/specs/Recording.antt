@@ -96,6 +96,20 @@ abbrev pub GoesOn : {T : Type 0} → List Change → Result T RecordFault → Si
 GoesOn cs result x y n o =
     (version : Version) (done : List Change) (w : SinkContents) (m : Store) → IsRecorded version done w x m n → Ends version done cs result w y m o
 
+-- ---- the tree alone
+
+-- the tree is the result of a first part of these commands
+pub record IsPartDone (cs : List Change) (m n : Store) : Type 0 where
+  pub done : List Change
+  pub rest : List Change
+  pub all : cs ≡ done ++ rest
+  pub tree : n ≡ stored m done
+
+-- what a part of a recording leaves of the tree, whatever is known of the sink: the result of these commands; or of a first part of them, where it was cut short
+abbrev pub CarriesOut : {T : Type 0} → List Change → Result T RecordFault → Store → Store → Type 0
+CarriesOut cs (Ok x) m n = n ≡ stored m cs
+CarriesOut cs (Err fault) m n = IsPartDone cs m n
+
 -- ---- the first line and the end line
 
 abbrev pub Begins : {T : Type 0} → Version → Result T RecordFault → SinkContents → SinkContents → Type 0

@@ -73,11 +73,12 @@ pub record Diverges (log : OpenLog) (t : Holding) (n : Node) : Type 0 where
 
 -- ---- what sealing answers
 
--- a list that is answered for a log over a tree that holds this, where that is known; some tree takes the log, and each of
--- its commands changes its node's value
+-- A list that is answered for a log over a tree that holds this, where that is known; some tree takes the log, and each of
+-- its commands changes its node's value. Of whatever tree it is the whole log, or without an end line all but the last command.
 pub record SealsLog (log : OpenLog) (held : Option Store) (sealed : List Change) : Type 0 where
   pub taken : IsTaken log.commands
   pub change : all_change log.commands ≡ true
+  pub which : IsAllOrAllButLast log sealed
   pub is_sealed : IfHeld held (λ m. IsSealed log (at m) sealed)
 
 -- A fault: the first command with which no tree takes the log; the first node that is not in order, which is touched; or

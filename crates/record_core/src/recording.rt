@@ -1,11 +1,11 @@
 //! A script, recorded operation by operation.
 
-ghost use Rattle.std.specs.Prelude.{◌≡◌, ◌⊎◌, ◌≤◌, ⊤, IsErrOf, OnErr, OnOk};
+ghost use Rattle.std.specs.Prelude.{◌≡◌, ◌⊎◌, ◌≤◌, ⊤, IsErrOf, OnErr};
 ghost use Rattle.sync_port.specs.States.{FaultCounted, IfKnown};
 ghost use Rattle.tree_port.specs.States.{IfTreeKnown, WhereKnown};
 ghost use Rattle.record_core.specs.Recording.{HasCause, IfBothKnown};
-ghost use Rattle.record_core.specs.Plans.{OpGoesOn};
-ghost use Rattle.record_core.specs.Outcomes.{ClosesAfter, OpsGoOn, RecordsScript, ScriptGoesOn};
+ghost use Rattle.record_core.specs.Plans.{CarriesOutOp, OpGoesOn};
+ghost use Rattle.record_core.specs.Outcomes.{AnswersAfter, CarriesOutOps, CarriesOutScript, ClosesAfter, OpsGoOn, RecordsScript, ScriptGoesOn};
 
 use crate::framing::{close_log, open_log};
 use crate::log_size::LogSize;
@@ -32,7 +32,8 @@ fn record_op<O: Sink>(
         (O.sink sink.old) (O.sink sink.new) (live tree.old) (live tree.new) }
     ensures never_denied { WhereKnown (live tree.old)
         (λ m. IsErrOf result RecordFault.TreeDenied → ⊥) }
-    ensures tree { OnOk result (IfTreeKnown (live tree.old) (live tree.new) (λ m n. ⊤)) }
+    ensures tree { IfTreeKnown (live tree.old) (live tree.new)
+        (CarriesOutOp version number op.now size.old size.new result) }
     ensures size { OnErr result (size.new ≡ size.old) }
     ensures recorded { IfBothKnown
         (O.sink sink.old) (O.sink sink.new) (live tree.old) (live tree.new)
@@ -58,6 +59,8 @@ fn record_ops<O: Sink>(
         (O.sink sink.old) (O.sink sink.new) (live tree.old) (live tree.new) }
     ensures never_denied { WhereKnown (live tree.old)
         (λ m. IsErrOf result RecordFault.TreeDenied → ⊥) }
+    ensures tree { IfTreeKnown (live tree.old) (live tree.new)
+        (CarriesOutOps version script.now size.old size.new result) }
     ensures recorded { IfBothKnown
         (O.sink sink.old) (O.sink sink.new) (live tree.old) (live tree.new)
         (OpsGoOn version script.now size.old size.new result) }
@@ -75,6 +78,7 @@ fn close_after<O: Sink>(alloc: Global, sink: &mut O, count: u64, fault: RecordFa
         FaultCounted (O.sink sink.old) (O.sink sink.new) }
     ensures failed { result ≡ RecordFault.TreeFailed → fault ≡ RecordFault.TreeFailed }
     ensures denied { result ≡ RecordFault.TreeDenied → fault ≡ RecordFault.TreeDenied }
+    ensures answer { AnswersAfter fault result }
     ensures closed { IfKnown (O.sink sink.old) (O.sink sink.new) (ClosesAfter count fault result) }
 {
     match fault {
@@ -102,6 +106,8 @@ fn record_opened<O: Sink>(
         (O.sink sink.old) (O.sink sink.new) (live tree.old) (live tree.new) }
     ensures never_denied { WhereKnown (live tree.old)
         (λ m. IsErrOf result RecordFault.TreeDenied → ⊥) }
+    ensures tree { IfTreeKnown (live tree.old) (live tree.new)
+        (CarriesOutScript version script.now result) }
     ensures recorded { IfBothKnown
         (O.sink sink.old) (O.sink sink.new) (live tree.old) (live tree.new)
         (ScriptGoesOn version script.now result) }
@@ -125,8 +131,10 @@ fn record_opened<O: Sink>(
 /// operation's first command, and the log of the operations before is closed. A fault of the tree or the sink comes
 /// only where it was counted there, and `TreeDenied` never from a tree whose contents are known. After any refusal but
 /// the first two the log is left open: its complete lines are those of a first part of the script's commands, and the
-/// tree is the result of these, or of all but the last. `docs/MODEL.md` has the meaning of the operations. There is no
-/// condition ("Boxes of trees" in `docs/DECISIONS.md`).
+/// tree is the result of these, or of all but the last. Of a tree whose contents are known all this holds whatever is
+/// known of the sink: after `Ok`, `OpRefused` and `TooLarge` the tree is the result of the operations before the end, and
+/// after any other refusal that of a first part of the script's commands. `docs/MODEL.md` has the meaning of the
+/// operations. There is no condition ("Boxes of trees" in `docs/DECISIONS.md`).
 pub fn record<O: Sink>(
     alloc: Global,
     tree: &mut Box<dyn Tree>,
@@ -139,6 +147,8 @@ pub fn record<O: Sink>(
         (O.sink sink.old) (O.sink sink.new) (live tree.old) (live tree.new) }
     ensures never_denied { WhereKnown (live tree.old)
         (λ m. IsErrOf result RecordFault.TreeDenied → ⊥) }
+    ensures tree { IfTreeKnown (live tree.old) (live tree.new)
+        (CarriesOutScript version script.now result) }
     ensures recorded { IfBothKnown
         (O.sink sink.old) (O.sink sink.new) (live tree.old) (live tree.new)
         (RecordsScript version script.now result) }

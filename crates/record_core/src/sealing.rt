@@ -1,6 +1,6 @@
 //! Sealing an open log: which of its commands the tree shows to be done.
 
-ghost use Rattle.std.specs.Prelude.{◌≡◌, ◌↔◌, ◌+◌, ◌<◌, ◌++◌, ◌∷◌, [], ⊤, false, IfOk, IsTrue, List, MatchResult, Option, Some, length, option_copied, slice_get};
+ghost use Rattle.std.specs.Prelude.{◌≡◌, ◌↔◌, ◌⊎◌, ◌+◌, ◌<◌, ◌++◌, ◌∷◌, [], ⊤, false, IfOk, IsSome, IsTrue, List, MatchResult, Option, Some, length, option_copied, slice_get};
 ghost use Rattle.std.specs.List.{AllByRecursion};
 ghost use Rattle.sync_path.specs.Paths.{comes_before};
 ghost use Rattle.sync_command.specs.declared.values.Version.{Version};
@@ -86,6 +86,7 @@ fn holds_old(
     ensures known { WhereKnown (live tree.old)
         (λ m. IsRightLook (λ b. IsTrue b ↔ HoldsOld (at m) (option_copied undone.entry) path.now)
         result) }
+    ensures has_last { IfOk result (λ b. IsTrue b → IsSome (option_copied undone.entry)) }
 {
     match undone {
         Some(command) => {
@@ -108,6 +109,8 @@ fn standing_of(
     ensures known { WhereKnown (live tree.old)
         (λ m. IsRightLook (StandsAs (at m) (option_copied undone.entry) (lent_touch touch.entry))
         result) }
+    ensures has_last { IfOk result (λ standing. standing ≡ Standing.Undone →
+        IsSome (option_copied undone.entry)) }
 {
     if holds(tree, touch.path, touch.last)? {
         return Ok(Standing::Done);
@@ -127,6 +130,8 @@ fn next(sum: &LogSum, shown: Shown, place: usize, standing: Standing) -> Shown
         slice_get sum.now.touched place ≡ Some x → StandsAs t undone x standing →
         Shows t undone sum.now.touched place shown →
         Shows t undone sum.now.touched (place + 1) result }
+    ensures undone { result ≡ Shown.Undone →
+        (standing ≡ Standing.Undone) ⊎ (shown ≡ Shown.Undone) }
 {
     match standing {
         Standing::Done => shown,
@@ -169,6 +174,8 @@ fn look(
     ensures known { WhereKnown (live tree.old)
         (λ m. IsRightLook (Shows (at m) (option_copied undone.entry) sum.now.touched
         (length sum.now.touched)) result) }
+    ensures has_last { IfOk result (λ shown. shown ≡ Shown.Undone →
+        IsSome (option_copied undone.entry)) }
 {
     let mut shown = Shown::Done;
     'nodes: for place in 0..sum.touched() {
@@ -228,7 +235,8 @@ fn seal_log(
 /// with the version of the text. Nothing in the tree is changed, and only touched nodes are asked for.
 ///
 /// All commands are given where each touched node holds its last value. All but the last are given where the text has no
-/// end line, the node of the last command holds that command's old value, and each other touched node its last value.
+/// end line, the node of the last command holds that command's old value, and each other touched node its last value. No
+/// other list is given, also over a tree of which nothing is known.
 /// `Text` comes exactly where the text is no open log, with its first wrong line; then `Broken` exactly where no tree
 /// takes the log, with the number of the first command with which none does, counted from 1. `Failed` and `Denied` come
 /// only where a call of the tree was counted as that, and `Denied` never from a tree whose contents are known. Then

@@ -1,12 +1,12 @@
 //! One command: its line, the flush, and only then the change of the tree.
 
-ghost use Rattle.std.specs.Prelude.{◌≡◌, ◌∷◌, [], OnOk, IfOk};
-ghost use Rattle.sync_command.specs.Maps.{at, stored};
+ghost use Rattle.std.specs.Prelude.{◌≡◌, ◌∷◌, [], IfOk};
+ghost use Rattle.sync_command.specs.Maps.{at};
 ghost use Rattle.sync_port.specs.States.{IfKnown};
 ghost use Rattle.sync_port.specs.Ports.{SinkFaults};
 ghost use Rattle.tree_port.specs.States.{IfTreeKnown, WhereKnown};
 ghost use Rattle.record_core.specs.Changing.{CanChange, CanRecord};
-ghost use Rattle.record_core.specs.Recording.{IfBothKnown, GoesOn, HasCause, StopsInside, WritesLine};
+ghost use Rattle.record_core.specs.Recording.{CarriesOut, IfBothKnown, GoesOn, HasCause, StopsInside, WritesLine};
 ghost use Rattle.record_core.specs.Texts.{line_of};
 
 use crate::RecordFault;
@@ -49,8 +49,8 @@ pub(crate) fn record_command<O: Sink>(
     ensures cause { HasCause result
         (O.sink sink.old) (O.sink sink.new) (live tree.old) (live tree.new) }
     ensures stops { WhereKnown (live tree.old) (λ m. StopsInside result) }
-    ensures tree { OnOk result (IfTreeKnown (live tree.old) (live tree.new)
-        (λ m n. n ≡ stored m (command.now ∷ []))) }
+    ensures tree { IfTreeKnown (live tree.old) (live tree.new)
+        (CarriesOut (command.now ∷ []) result) }
     ensures recorded { IfBothKnown
         (O.sink sink.old) (O.sink sink.new) (live tree.old) (live tree.new)
         (GoesOn (command.now ∷ []) result) }

@@ -1,9 +1,9 @@
 //! The steps of an operation, recorded one after another.
 
-ghost use Rattle.std.specs.Prelude.{◌≡◌, ◌∷◌, [], OnOk};
-ghost use Rattle.sync_command.specs.Maps.{at, stored};
+ghost use Rattle.std.specs.Prelude.{◌∷◌, []};
+ghost use Rattle.sync_command.specs.Maps.{at};
 ghost use Rattle.tree_port.specs.States.{IfTreeKnown, WhereKnown};
-ghost use Rattle.record_core.specs.Recording.{IfBothKnown, GoesOn, HasCause, StopsInside};
+ghost use Rattle.record_core.specs.Recording.{CarriesOut, IfBothKnown, GoesOn, HasCause, StopsInside};
 ghost use Rattle.record_core.specs.Steps.{CanStep, CanWalk, change_of, changes_of};
 
 use crate::RecordFault;
@@ -25,8 +25,8 @@ fn record_step<O: Sink>(
     ensures cause { HasCause result
         (O.sink sink.old) (O.sink sink.new) (live tree.old) (live tree.new) }
     ensures stops { WhereKnown (live tree.old) (λ m. StopsInside result) }
-    ensures tree { OnOk result (IfTreeKnown (live tree.old) (live tree.new)
-        (λ m n. n ≡ stored m (change_of (at m) step.now ∷ []))) }
+    ensures tree { IfTreeKnown (live tree.old) (live tree.new)
+        (λ m n. CarriesOut (change_of (at m) step.now ∷ []) result m n) }
     ensures recorded { IfBothKnown
         (O.sink sink.old) (O.sink sink.new) (live tree.old) (live tree.new)
         (λ x y m n. GoesOn (change_of (at m) step.now ∷ []) result x y m n) }
@@ -49,8 +49,8 @@ pub(crate) fn record_steps<O: Sink>(
     ensures cause { HasCause result
         (O.sink sink.old) (O.sink sink.new) (live tree.old) (live tree.new) }
     ensures stops { WhereKnown (live tree.old) (λ m. StopsInside result) }
-    ensures tree { OnOk result (IfTreeKnown (live tree.old) (live tree.new)
-        (λ m n. n ≡ stored m (changes_of (at m) steps.now))) }
+    ensures tree { IfTreeKnown (live tree.old) (live tree.new)
+        (λ m n. CarriesOut (changes_of (at m) steps.now) result m n) }
     ensures recorded { IfBothKnown
         (O.sink sink.old) (O.sink sink.new) (live tree.old) (live tree.new)
         (λ x y m n. GoesOn (changes_of (at m) steps.now) result x y m n) }

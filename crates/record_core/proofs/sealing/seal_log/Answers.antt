@@ -13,7 +13,7 @@ returns-in-Ok-Done-clause-answer g c log e b =
 
 pub returns-in-Ok-Undone-clause-answer : goal.returns-in-Ok-Undone-clause-answer
 returns-in-Ok-Undone-clause-answer g c log e b =
-    last_undone log c.args.commands.items c.deref.result.now c.deref-2.result.now c.without_last.result.items c.args.ended c.in_ok-sum.sum (option_copied c.open_command.result) c.in-Ok-Undone.field-0 _ e b c.deref.ensures.value c.deref-2.ensures.value c.in_ok-sum.ensures c.open_command.ensures c.in-Ok-Undone.field-0-is c.in-Ok-Undone.ensures.known c.without_last.ensures.last
+    last_undone log c.args.commands.items c.deref.result.now c.deref-2.result.now c.without_last.result.items c.args.ended c.in_ok-sum.sum (option_copied c.open_command.result) c.in-Ok-Undone.field-0 _ e b c.deref.ensures.value c.deref-2.ensures.value c.in_ok-sum.ensures c.open_command.ensures c.in-Ok-Undone.field-0-is c.in-Ok-Undone.ensures.known (c.in-Ok-Undone.ensures.has_last c.in-Ok-Undone.field-0-is) c.without_last.ensures.last
 
 pub returns-in-Ok-Undone-clause-printable : goal.returns-in-Ok-Undone-clause-printable
 returns-in-Ok-Undone-clause-printable g c version each =
