@@ -4,12 +4,12 @@ use Rattle.std.specs.List.{AllByRecursion}
 use Rattle.std.proofs.lemmas.List.{append-nil}
 use Rattle.sync_path.specs.Paths.{parts}
 use Rattle.sync_command.specs.declared.values.Version.{Version}
-use Rattle.sync_command.specs.Maps.{Store}
+use Rattle.sync_command.specs.Maps.{Store, stored}
 use Rattle.sync_port.specs.States.{FaultCounted, IfBoth}
 use Rattle.sync_port.specs.Ports.{FileContents, FilesState, SinkContents, SinkState}
 use Rattle.tree_port.specs.States.{TreeState}
-use Rattle.record_core.specs.Outcomes.{Outcome as RecordOutcome, RecordsScript, outcome_of}
-use Rattle.record_core.specs.Recording.{InFirst, IsClosed, LeavesOpen}
+use Rattle.record_core.specs.Outcomes.{CarriesOutScript, Outcome as RecordOutcome, RecordsScript, outcome_of}
+use Rattle.record_core.specs.Recording.{InFirst, IsClosed, IsPartDone, LeavesOpen}
 use Rattle.record_core.specs.Scripts.{script_of}
 use Rattle.record_core.specs.declared.faults.RecordFault.{RecordFault}
 use Rattle.record_core.specs.declared.faults.RecordFault.TheVariants as fault
@@ -23,7 +23,7 @@ use Rattle.treesync.specs.Apply.{OfOnlyTree}
 use Rattle.treesync.specs.Checks.{Answers, FilesCounted, IsAllowed, IsOfJob, IsRight, ReadsFiles, Unless}
 use Rattle.treesync.specs.Ends.{Prints, Says}
 use Rattle.treesync.specs.Files.{file_answer, text_answer}
-use Rattle.treesync.specs.Headline.{HoldsScript, LeavesRecording, PrintsRecorded, RecordsHeld, end_status}
+use Rattle.treesync.specs.Headline.{CarriesOutHeld, CarriesOutRecord, ComesToEnd, HoldsScript, LeavesRecording, PrintsRecorded, RecordsHeld, end_status}
 use Rattle.treesync.specs.Jobs.{IsCountedByFirst, Keeps, NoTreeFell, NoneFailed, Outside, held_tree, inputs_of, limits_of_words}
 use Rattle.treesync.specs.Messages.{message_of, status_of}
 use Rattle.treesync.specs.Record.{HasOps, IsScript, RecordsOnTree, Script}
@@ -199,6 +199,24 @@ both_known (Some v) (Some w) P x e h =
     let same : v ≡ x = cc in
     (w, refl, subst (λ v. P v w) same h)
 
+-- what was carried out on a tree that is known
+pub record HasCarried (script : Script) (result : Result ℕ RecordFault) (m : Store) (before now : SinkState) (trees later : List TreeState) : Type 0 where
+  pub tree : Store
+  pub held : held_tree later ≡ Some tree
+  pub carries : CarriesOutScript script.0 script.1 result m tree
+  pub failed : IsErrOf result fault.TreeFailed → IsCountedByFirst (λ c. c.faults) trees later
+  pub write : IsErrOf result fault.WriteFault → FaultCounted before now
+
+carried_on : (script : Script) (result : Result ℕ RecordFault) (m : Store) (before now : SinkState) (trees later : List TreeState) → held_tree trees ≡ Some m →
+    OfOnlyTree trees later (RecordsOnTree script result before now) → HasCarried script result m before now trees later
+carried_on script result m before now [] later has h = absurd h
+carried_on script result m before now (tree ∷ []) [] has h = absurd h
+carried_on script result m before now (tree ∷ []) (next ∷ (more ∷ later)) has h = absurd h
+carried_on script result m before now (tree ∷ (more ∷ trees)) later has h = absurd h
+carried_on script result m before now (tree ∷ []) (next ∷ []) has h =
+    let held = both_known tree.contents next.contents (CarriesOutScript script.0 script.1 result) m has h.carried_out in
+    record { tree = held.0; held = held.1; carries = held.2; failed = h.cause.failed; write = h.cause.write }
+
 -- what was recorded of a tree and an `out` that are known
 pub record HasWritten (script : Script) (result : Result ℕ RecordFault) (m : Store) (x : SinkContents) (before now : SinkState) (trees later : List TreeState) : Type 0 where
   pub tree : Store
@@ -228,7 +246,7 @@ module _ (folder file : Operand) (before now : Outside) (status : ℕ) (script :
   Left y n = LeavesRecording script.0 run status x y m n
 
   abbrev Completed : Type 0
-  Completed = (IsCountedByFirst (λ c. c.faults) before.trees now.trees → ⊥) → (FaultCounted before.files now.files → ⊥) → (FaultCounted before.out now.out → ⊥) → (status ≡ end_status run.end) ⊎ (status ≡ 16)
+  Completed = ComesToEnd run before now status
 
   closed_left : (y : SinkContents) (n : Store) → status ≡ end_status run.end → IsClosed script.0 run.commands x y m n → Left y n
   closed_left y n e is = record {
@@ -285,8 +303,57 @@ module _ (folder file : Operand) (before now : Outside) (status : ℕ) (script :
     completes = completes;
   }
 
-module _ (words : List Text) (before now : Outside) (status : ℕ) (runs : Runs words before now status) (folder file : Operand) (m : FileContents) (script : Script) (tree : Store) (x : SinkContents)
-    (e : job_of words ≡ Some (Record folder file)) (known : before.files.contents ≡ Some m) (holds : HoldsScript m.held file script) (has : held_tree before.trees ≡ Some tree) (has_out : before.out.contents ≡ Some x) where
+-- the same of the tree alone
+module _ (folder file : Operand) (before now : Outside) (status : ℕ) (script : Script) (m : Store) where
+  abbrev of_script : RecordOutcome
+  of_script = outcome_of script.0 m script.1
+
+  all_done : (n : Store) → n ≡ stored m of_script.commands → IsPartDone of_script.commands m n
+  all_done n is = record { done = of_script.commands; rest = []; all = sym (append-nil of_script.commands); tree = is }
+
+  abbrev Ended : Store → Type 0
+  Ended n = (status ≡ 0) ⊎ ((status ≡ 12) ⊎ (status ≡ 15)) → (status ≡ end_status of_script.end) × (n ≡ stored m of_script.commands)
+
+  not_ended : (n : Store) (k : ℕ) → status ≡ k → (k ≡ 0 → ⊥) → (k ≡ 12 → ⊥) → (k ≡ 15 → ⊥) → Ended n
+  not_ended n k e a b c (inl s) = absurd (a (sym e ∙ s))
+  not_ended n k e a b c (inr (inl s)) = absurd (b (sym e ∙ s))
+  not_ended n k e a b c (inr (inr s)) = absurd (c (sym e ∙ s))
+
+  carried_tree : (result : Result ℕ RecordFault) → status ≡ recording_status folder.place file.place result → (w : HasCarried script result m before.out now.out before.trees now.trees) →
+      Ended w.tree × IsPartDone of_script.commands m w.tree × ComesToEnd of_script before now status
+  carried_tree (Ok number) e w =
+      let z : status ≡ end_status of_script.end = e ∙ ap end_status (sym w.carries.0) in
+      ((λ s. (z, w.carries.1.1)), all_done w.tree w.carries.1.1, λ tree files out. inl z)
+  carried_tree (Err (fault.OpRefused number why)) e w =
+      let z : status ≡ end_status of_script.end = e ∙ ap end_status (sym w.carries.0) in
+      ((λ s. (z, w.carries.1)), all_done w.tree w.carries.1, λ tree files out. inl z)
+  carried_tree (Err fault.TooLarge) e w =
+      let z : status ≡ end_status of_script.end = e ∙ ap end_status (sym w.carries.0) in
+      ((λ s. (z, w.carries.1)), all_done w.tree w.carries.1, λ tree files out. inl z)
+  carried_tree (Err fault.TreeDenied) e w = absurd w.carries
+  carried_tree (Err fault.TreeFailed) e w =
+      (not_ended w.tree 10 e (λ z. omega (arith, z)) (λ z. omega (arith, z)) (λ z. omega (arith, z)), w.carries, λ tree files out. absurd (tree (w.failed refl)))
+  carried_tree (Err fault.WriteFault) e w =
+      (not_ended w.tree 4 e (λ z. omega (arith, z)) (λ z. omega (arith, z)) (λ z. omega (arith, z)), w.carries, λ tree files out. absurd (out (w.write refl)))
+  carried_tree (Err fault.Memory) e w =
+      (not_ended w.tree 16 e (λ z. omega (arith, z)) (λ z. omega (arith, z)) (λ z. omega (arith, z)), w.carries, λ tree files out. inr e)
+
+  pub carried_out_held : (result : Result ℕ RecordFault) → status ≡ recording_status folder.place file.place result → HasCarried script result m before.out now.out before.trees now.trees → CarriesOutHeld script m before now status
+  carried_out_held result e w =
+      let c = carried_tree result e w in
+      record { tree = w.tree; held = w.held; ended = c.0; part = c.1; completes = c.2 }
+
+  pub not_carried_out : (k : ℕ) → status ≡ k → (k ≡ 0 → ⊥) → (k ≡ 12 → ⊥) → (k ≡ 15 → ⊥) → now.trees ≡ before.trees → held_tree before.trees ≡ Some m → ComesToEnd of_script before now status → CarriesOutHeld script m before now status
+  not_carried_out k e a b c trees has completes = record {
+    tree = m;
+    held = ap held_tree trees ∙ has;
+    ended = not_ended m k e a b c;
+    part = record { done = []; rest = of_script.commands; all = refl; tree = refl };
+    completes = completes;
+  }
+
+module _ (words : List Text) (before now : Outside) (status : ℕ) (runs : Runs words before now status) (folder file : Operand) (m : FileContents) (script : Script) (tree : Store)
+    (e : job_of words ≡ Some (Record folder file)) (known : before.files.contents ≡ Some m) (holds : HoldsScript m.held file script) (has : held_tree before.trees ≡ Some tree) where
   ran : RanRecording folder file words before now status
   ran = subst (λ j. RunsJob j words before now status) e runs.does
 
@@ -309,28 +376,45 @@ module _ (words : List Text) (before now : Outside) (status : ℕ) (runs : Runs 
   not_read : (r : Refusal) → IsScript file m.held false (Err r) → ⊥
   not_read r h = ok_no_err (sym (right_script (Err r) h))
 
-  held_by : (answer : Result Script Refusal) → IsOfJob answer → IsRight (IsScript file) m.held (FilesCounted before.files now.files) answer → CarriesOut folder file words before now status answer → RecordsHeld script tree x before now status
-  held_by (Ok read) job right does =
-      let same : read ≡ script = ok_is (right_script (Ok read) right) in
-      carried_held folder file before now status script tree x ops does.0 does.2
-      (written_on script does.0 tree x before.out now.out before.trees now.trees has has_out (subst (λ s. OfOnlyTree before.trees now.trees (RecordsOnTree s does.0 before.out now.out)) same does.1))
-  held_by (Err InvalidArguments) job right does = absurd job
-  held_by (Err OutOfMemory) job right does =
-      unread_held folder file before now status script tree x ops 16 does.2 (λ z. omega (arith, z)) (λ z. omega (arith, z)) (λ z. omega (arith, z)) does.0 does.1 has has_out (λ tree files out. inr does.2)
-  held_by (Err (CallFailed (ReadFailed word))) job right does =
-      unread_held folder file before now status script tree x ops 3 does.2 (λ z. omega (arith, z)) (λ z. omega (arith, z)) (λ z. omega (arith, z)) does.0 does.1 has has_out (λ tree files out. absurd (counted right files))
-    where
-      counted : IsRight (IsScript file) m.held (FilesCounted before.files now.files) (Err (CallFailed (ReadFailed word))) → (FaultCounted before.files now.files → ⊥) → ⊥
-      counted (inl h) quiet = not_read (CallFailed (ReadFailed word)) h
-      counted (inr h) quiet = quiet h.0
-  held_by (Err (CallFailed (TreeFailed word))) job (inl h) does = absurd (not_read (CallFailed (TreeFailed word)) h)
-  held_by (Err (CallFailed (TreeFailed word))) job (inr h) does = absurd h.0
-  held_by (Err (CallFailed (TreeDenied word))) job (inl h) does = absurd (not_read (CallFailed (TreeDenied word)) h)
-  held_by (Err (CallFailed (TreeDenied word))) job (inr h) does = absurd h.0
-  held_by (Err (Found finding)) job right does = absurd (not_read (Found finding) right)
+  -- the script was carried out, or it was not read
+  module _ (P : Type 0) (carried_by : (result : Result ℕ RecordFault) → status ≡ recording_status folder.place file.place result → OfOnlyTree before.trees now.trees (RecordsOnTree script result before.out now.out) → P)
+      (unread_by : (k : ℕ) → status ≡ k → (k ≡ 0 → ⊥) → (k ≡ 12 → ⊥) → (k ≡ 15 → ⊥) → now.trees ≡ before.trees → now.out ≡ before.out → ComesToEnd (outcome_of script.0 tree script.1) before now status → P) where
+    held_by : (answer : Result Script Refusal) → IsOfJob answer → IsRight (IsScript file) m.held (FilesCounted before.files now.files) answer → CarriesOut folder file words before now status answer → P
+    held_by (Ok read) job right does =
+        let same : read ≡ script = ok_is (right_script (Ok read) right) in
+        carried_by does.0 does.2 (subst (λ s. OfOnlyTree before.trees now.trees (RecordsOnTree s does.0 before.out now.out)) same does.1)
+    held_by (Err InvalidArguments) job right does = absurd job
+    held_by (Err OutOfMemory) job right does =
+        unread_by 16 does.2 (λ z. omega (arith, z)) (λ z. omega (arith, z)) (λ z. omega (arith, z)) does.0 does.1 (λ tree files out. inr does.2)
+    held_by (Err (CallFailed (ReadFailed word))) job right does =
+        unread_by 3 does.2 (λ z. omega (arith, z)) (λ z. omega (arith, z)) (λ z. omega (arith, z)) does.0 does.1 (λ tree files out. absurd (counted right files))
+      where
+        counted : IsRight (IsScript file) m.held (FilesCounted before.files now.files) (Err (CallFailed (ReadFailed word))) → (FaultCounted before.files now.files → ⊥) → ⊥
+        counted (inl h) quiet = not_read (CallFailed (ReadFailed word)) h
+        counted (inr h) quiet = quiet h.0
+    held_by (Err (CallFailed (TreeFailed word))) job (inl h) does = absurd (not_read (CallFailed (TreeFailed word)) h)
+    held_by (Err (CallFailed (TreeFailed word))) job (inr h) does = absurd h.0
+    held_by (Err (CallFailed (TreeDenied word))) job (inl h) does = absurd (not_read (CallFailed (TreeDenied word)) h)
+    held_by (Err (CallFailed (TreeDenied word))) job (inr h) does = absurd h.0
+    held_by (Err (Found finding)) job right does = absurd (not_read (Found finding) right)
 
-  pub records_held : RecordsHeld script tree x before now status
-  records_held = held_by ran.script ran.of_job (read_so before.files.contents ran.script known ran.allowed) ran.carries_out
+    of_run : P
+    of_run = held_by ran.script ran.of_job (read_so before.files.contents ran.script known ran.allowed) ran.carries_out
+
+  pub script_carried_out : CarriesOutHeld script tree before now status
+  script_carried_out =
+      of_run (CarriesOutHeld script tree before now status)
+      (λ result z on. carried_out_held folder file before now status script tree result z (carried_on script result tree before.out now.out before.trees now.trees has on))
+      (λ k z a b c trees out completes. not_carried_out folder file before now status script tree k z a b c trees has completes)
+
+  pub records_held : (x : SinkContents) → before.out.contents ≡ Some x → RecordsHeld script tree x before now status
+  records_held x has_out =
+      of_run (RecordsHeld script tree x before now status)
+      (λ result z on. carried_held folder file before now status script tree x ops result z (written_on script result tree x before.out now.out before.trees now.trees has has_out on))
+      (λ k z a b c trees out completes. unread_held folder file before now status script tree x ops k z a b c trees out has has_out completes)
 
 pub prints_recorded : (words : List Text) (before now : Outside) (status : ℕ) → Runs words before now status → PrintsRecorded words before now status
-prints_recorded words before now status runs folder file m script tree x e known holds has has_out = records_held words before now status runs folder file m script tree x e known holds has has_out
+prints_recorded words before now status runs folder file m script tree x e known holds has has_out = records_held words before now status runs folder file m script tree e known holds has x has_out
+
+pub carries_out_record : (words : List Text) (before now : Outside) (status : ℕ) → Runs words before now status → CarriesOutRecord words before now status
+carries_out_record words before now status runs folder file m script tree e known holds has = script_carried_out words before now status runs folder file m script tree e known holds has

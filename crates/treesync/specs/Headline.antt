@@ -28,7 +28,7 @@ use Rattle.tree_port.specs.States.{TreeState}
 use Rattle.resume_apply.specs.Finishing.{IsPaid, counted_on}
 use Rattle.resume_apply.specs.Ready.{IsOnItsWay, IsReady, work}
 use Rattle.record_core.specs.Outcomes.{AtEnd, End, Large, Outcome as RecordOutcome, Refused, outcome_of}
-use Rattle.record_core.specs.Recording.{IsClosed, LeavesOpen}
+use Rattle.record_core.specs.Recording.{IsClosed, IsPartDone, LeavesOpen}
 use Rattle.record_core.specs.Scripts.{script_of}
 use Rattle.record_core.specs.Seals.{IsLogOf, IsSealed, LeavesLog, OpenLog}
 use Rattle.record_core.specs.Validity.{HoldsValues}
@@ -308,6 +308,30 @@ end_status AtEnd = 0
 end_status (Refused number why) = 15
 end_status Large = 12
 
+-- unless a fault was counted it comes to the script's end, or memory ran out
+abbrev pub ComesToEnd : RecordOutcome → Outside → Outside → ℕ → Type 0
+ComesToEnd run before now status =
+    (IsCountedByFirst (λ c. c.faults) before.trees now.trees → ⊥) → (FaultCounted before.files now.files → ⊥) →
+    (FaultCounted before.out now.out → ⊥) → (status ≡ end_status run.end) ⊎ (status ≡ 16)
+
+-- What a recording of a script that is held leaves of a tree that is known, whatever is known of `out`. With the statuses
+-- 0, 12 and 15 the tree is the result of the commands before the script's end; with every other one it is that of a first
+-- part of them.
+pub record CarriesOutHeld (script : Script) (m : Store) (before now : Outside) (status : ℕ) : Type 0 where
+  pub tree : Store
+  pub held : held_tree now.trees ≡ Some tree
+  pub ended : (status ≡ 0) ⊎ ((status ≡ 12) ⊎ (status ≡ 15)) →
+      let run = outcome_of script.0 m script.1 in (status ≡ end_status run.end) × (tree ≡ stored m run.commands)
+  pub part : IsPartDone (outcome_of script.0 m script.1).commands m tree
+  pub completes : ComesToEnd (outcome_of script.0 m script.1) before now status
+
+-- The operations of a script are carried out up to its end, and no further one, whatever becomes of the log.
+abbrev pub CarriesOutRecord : List Text → Outside → Outside → ℕ → Type 0
+CarriesOutRecord words before now status =
+    (folder file : Operand) (m : FileContents) (script : Script) (tree : Store) →
+    job_of words ≡ Some (Record folder file) → before.files.contents ≡ Some m → HoldsScript m.held file script →
+    held_tree before.trees ≡ Some tree → CarriesOutHeld script tree before now status
+
 -- What a recording leaves of `out` and of the tree. With the statuses 0, 12 and 15 the log of the operations before the
 -- script's end was closed, and the tree is its result. With every other one its first bytes were written: the tree is the
 -- result of the commands whose lines are whole, or of all of these but the last. Where the tree held paths and values
@@ -325,8 +349,7 @@ pub record RecordsHeld (script : Script) (m : Store) (x : SinkContents) (before 
   pub written : SinkContents
   pub known : now.out.contents ≡ Some written
   pub leaves : LeavesRecording script.0 (outcome_of script.0 m script.1) status x written m tree
-  pub completes : (IsCountedByFirst (λ c. c.faults) before.trees now.trees → ⊥) → (FaultCounted before.files now.files → ⊥) →
-      (FaultCounted before.out now.out → ⊥) → (status ≡ end_status (outcome_of script.0 m script.1).end) ⊎ (status ≡ 16)
+  pub completes : ComesToEnd (outcome_of script.0 m script.1) before now status
 
 -- Each change of a tree is on the log before it is made, whatever stops a `record`.
 abbrev pub PrintsRecorded : List Text → Outside → Outside → ℕ → Type 0

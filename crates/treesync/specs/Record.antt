@@ -6,8 +6,8 @@ use Rattle.sync_path.specs.Paths.{parts}
 use Rattle.sync_command.specs.declared.values.Version.{Version}
 use Rattle.sync_command.specs.Maps.{Store}
 use Rattle.sync_port.specs.Ports.{SinkState}
-use Rattle.tree_port.specs.States.{TreeState, WhereKnown}
-use Rattle.record_core.specs.Outcomes.{AtEnd, End, Large, Outcome, RecordsScript, Refused, outcome_of}
+use Rattle.tree_port.specs.States.{IfTreeKnown, TreeState, WhereKnown}
+use Rattle.record_core.specs.Outcomes.{AtEnd, CarriesOutScript, End, Large, Outcome, RecordsScript, Refused, outcome_of}
 use Rattle.record_core.specs.Recording.{HasCause, IfBothKnown}
 use Rattle.record_core.specs.Scripts.{script_of}
 use Rattle.record_core.specs.Texts.{closed_text}
@@ -71,9 +71,10 @@ IsRecord file tree = Then (IsScript file) (λ script. Judged (IsRecordedText fil
 
 -- ---- what functions owe
 
--- What recording a script on a tree answers and leaves: each fault was counted, a tree that is known denies nothing, and
--- where sink and tree are known they are what the answer says.
+-- What recording a script on a tree answers and leaves: each fault was counted, a tree that is known denies nothing and is
+-- what the answer says, and so is the sink where it is known too.
 pub record RecordsOnTree (script : Script) (result : Result ℕ RecordFault) (x y : SinkState) (t u : TreeState) : Type 0 where
   pub cause : HasCause result x y t u
   pub never_denied : WhereKnown t (λ m. IsErrOf result fault.TreeDenied → ⊥)
+  pub carried_out : IfTreeKnown t u (CarriesOutScript script.0 script.1 result)
   pub recorded : IfBothKnown x y t u (RecordsScript script.0 script.1 result)

@@ -65,7 +65,7 @@ impl Explained {
 }
 
 /// What the first merger of logs leaves out, to be explained.
-fn explained(merged: MergedLogs) -> Explained
+fn explain_merged(merged: MergedLogs) -> Explained
     requires { (asked : Asked) × IsMergedOf merged asked }
     ensures { (asked : Asked) → IsMergedOf merged asked →
         IsJudged ShowsReasons (AreReasons asked.0 asked.1) (Ok result) }
@@ -89,5 +89,5 @@ pub fn explain<F: Files>(
         (F.files files.old) (F.files files.new) result }
 {
     let merged = merged_logs(alloc, prefs, names, files)?;
-    Ok(explained(merged))
+    Ok(explain_merged(merged))
 }

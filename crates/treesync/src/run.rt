@@ -9,7 +9,7 @@ ghost use Rattle.tool_words.specs.Trees.{job_folders};
 ghost use Rattle.treesync.specs.Answering.{StandsForOutput};
 ghost use Rattle.treesync.specs.Checks.{Answers, HasItems, IsJudged, IsOne};
 ghost use Rattle.treesync.specs.Completeness.{CompletesJob};
-ghost use Rattle.treesync.specs.Headline.{KeepsUnready, PrintsApplied, PrintsChanges, PrintsMerger, PrintsRecorded, PrintsRules, PrintsSealed, PrintsSteered, PrintsTransition, ResumesApply, TellsClashes};
+ghost use Rattle.treesync.specs.Headline.{CarriesOutRecord, KeepsUnready, PrintsApplied, PrintsChanges, PrintsMerger, PrintsRecorded, PrintsRules, PrintsSealed, PrintsSteered, PrintsTransition, ResumesApply, TellsClashes};
 ghost use Rattle.treesync.specs.Jobs.{FindsJob, HasItsTrees, IsAnswer, IsJobAnswer, Keeps, NoneFailed, inputs, limits_of, outside};
 ghost use Rattle.treesync.specs.RoundHeadline.{AnswersRound, JoinsReplicas, KeepsUnreadyRound, ResumesRound};
 ghost use Rattle.treesync.specs.SetHeadline.{PrintsCatchup, PrintsReasons, PrintsRebase, PrintsUndo};
@@ -313,6 +313,12 @@ pub fn run<F: Files, O: Sink, E: Sink>(
         (E.sink err.new)) result }
     ensures records { HasItsTrees (map string_bytes words.now) trees.old.items →
         PrintsRecorded (map string_bytes words.now)
+        (outside (F.files files.old) (map (λ tree. live tree) trees.old.items) (O.sink out.old)
+        (E.sink err.old))
+        (outside (F.files files.new) (map (λ tree. live tree) trees.new.items) (O.sink out.new)
+        (E.sink err.new)) result }
+    ensures carries_out { HasItsTrees (map string_bytes words.now) trees.old.items →
+        CarriesOutRecord (map string_bytes words.now)
         (outside (F.files files.old) (map (λ tree. live tree) trees.old.items) (O.sink out.old)
         (E.sink err.old))
         (outside (F.files files.new) (map (λ tree. live tree) trees.new.items) (O.sink out.new)

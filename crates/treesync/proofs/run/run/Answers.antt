@@ -1,6 +1,6 @@
 use Rattle.std.proofs.Common.{map, string_bytes, ◌∙◌}
 use Rattle.std.proofs.lemmas.List.{length-map}
-use Rattle.treesync.proofs.Recordings.{prints_recorded}
+use Rattle.treesync.proofs.Recordings.{carries_out_record, prints_recorded}
 use Rattle.treesync.proofs.RoundHeadlines.{answers_round, joins_replicas, keeps_unready_round, resumes_round}
 use Rattle.treesync.proofs.Running.{runs_applied, runs_catchup, runs_changes, runs_clashes, runs_complete, runs_merger, runs_on, runs_reasons, runs_rebase, runs_rules, runs_sealed, runs_steered, runs_transition, runs_undo, runs_unready}
 use Rattle.treesync.proofs.Unique.{answer_one}
@@ -45,6 +45,9 @@ returns-clause-seals g c = λ has. runs_sealed _ _ _ _ (c.run_words.ensures.runs
 
 pub returns-clause-records : goal.returns-clause-records
 returns-clause-records g c = λ has. prints_recorded _ _ _ _ (c.run_words.ensures.runs has)
+
+pub returns-clause-carries_out : goal.returns-clause-carries_out
+returns-clause-carries_out g c = λ has. carries_out_record _ _ _ _ (c.run_words.ensures.runs has)
 
 pub returns-clause-refused : goal.returns-clause-refused
 returns-clause-refused g c = λ has e. (c.run_words.ensures.ends has).refused e

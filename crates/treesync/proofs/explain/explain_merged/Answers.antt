@@ -2,7 +2,7 @@ use Rattle.std.proofs.Common.{Ok, sym, subst}
 use Rattle.treesync.specs.Checks.{IsJudged}
 use Rattle.treesync.specs.Explain.{AreReasons, ShowsReasons}
 use Rattle.treesync.proofs.Explaining.{merger_explained, merger_of}
-use Rattle.treesync.proofs.explain.explained.Goals as goal
+use Rattle.treesync.proofs.explain.explain_merged.Goals as goal
 
 pub new-requires : goal.new-requires
 new-requires c = let r = c.requires in merger_of c.args.merged.logs r.0.0 c.args.merged.merger r.1.first
