@@ -1,9 +1,10 @@
 -- The entries of the files in memory.
-use Rattle.std.proofs.Common.{◌≡◌, ◌<◌, ◌≤◌, ◌+◌, ◌++◌, take, set, ℕ, List, [], ◌∷◌, Bool, true, false, drop, length, get_or, None, Some, refl, ◌∙◌, ap, sym, zero, suc, zero-add, suc-add, add-one, if◌then◌else◌, ◌-◌, arith, string_bytes}
+use Rattle.std.proofs.Common.{◌≡◌, ◌<◌, ◌≤◌, ◌+◌, ◌++◌, take, set, ℕ, List, [], ◌∷◌, Bool, true, false, drop, length, map, max, min, get_or, None, Some, Option, refl, ◌∙◌, ap, sym, zero, suc, zero-add, suc-add, add-one, if◌then◌else◌, ◌-◌, arith, string_bytes}
 use Rattle.std.proofs.lemmas.List.{at_drop_all, take-append-drop, take_rest, take_all}
 use Rattle.std.proofs.lemmas.Slice.Eq.{bytes_eq-Decides}
 use Rattle.std.specs.Str.{bytes_eq}
-use Rattle.sync_port.specs.Entries.{held_in, entry_bytes, IsPlaceOf}
+use Rattle.sync_port.specs.Ports.{most_with}
+use Rattle.sync_port.specs.Entries.{bytes_at, entry_bytes, first_under, held_in, most_in, name_at, named, IsPlaceOf}
 use Rattle.sync_port.specs.declared.entries.Entry.{Entry}
 
 -- ---- names
@@ -111,6 +112,82 @@ pushed_leaves [] e name other n differs = head_other e [] other (other_bytes (st
 pushed_leaves (x ∷ es) e name other n differs =
     ap (λ found. if bytes_eq (string_bytes x.name) other then Some x.bytes.items else found) (pushed_leaves es e name other n differs)
 
+-- ---- the most bytes that were read of a name
+
+abbrev most_of_entry : Entry → List ℕ → ℕ
+most_of_entry e name = if bytes_eq (string_bytes e.name) name then e.most else 0
+
+pub place_named : (es : List Entry) (i : ℕ) (name : List ℕ) → IsPlaceOf name es i → name_at es (Some i) ≡ Some name
+place_named [] i name p = absurd p
+place_named (e ∷ es) zero name p = ap Some p
+place_named (e ∷ es) (suc i) name p = place_named es i name p.1
+
+-- other bytes under the name of an entry leave what was read of it
+pub put_leaves_most : (es : List Entry) (i : ℕ) (d e : Entry) (other : List ℕ) → string_bytes e.name ≡ string_bytes (get_or es i d).name → e.most ≡ (get_or es i d).most → i < length es →
+    most_in (set es i e) other ≡ most_in es other
+put_leaves_most [] i d e other n c h = absurd (omega arith)
+put_leaves_most (x ∷ es) zero d e other n c h = ap (λ m. max m (most_in es other)) (ap (λ t. if bytes_eq t other then e.most else 0) n ∙ ap (λ t. if bytes_eq (string_bytes x.name) other then t else 0) c)
+put_leaves_most (x ∷ es) (suc i) d e other n c h = ap (max (most_of_entry x other)) (put_leaves_most es i d e other n c (omega arith))
+
+pub pushed_leaves_most : (es : List Entry) (e : Entry) (other : List ℕ) → e.most ≡ 0 → most_in (es ++ e ∷ []) other ≡ most_in es other
+pushed_leaves_most [] e other none = cases (bytes_eq (string_bytes e.name) other)
+  where
+    cases : (b : Bool) → max (if b then e.most else 0) 0 ≡ 0
+    cases true = omega (arith, none)
+    cases false = omega arith
+pushed_leaves_most (x ∷ es) e other none = ap (max (most_of_entry x other)) (pushed_leaves_most es e other none)
+
+-- an entry that differs from the one at the place in what was read of it alone
+pub record IsNoted (es : List Entry) (i : ℕ) (d e : Entry) : Type 0 where
+  pub name : string_bytes e.name ≡ string_bytes (get_or es i d).name
+  pub bytes : e.bytes.items ≡ (get_or es i d).bytes.items
+
+noted_named : (es : List Entry) (i : ℕ) (d e : Entry) → i < length es → IsNoted es i d e → map named (set es i e) ≡ map named es
+noted_named [] i d e h n = absurd (omega arith)
+noted_named (x ∷ es) zero d e h n = ap (λ t. (t, e.bytes.items) ∷ map named es) n.name ∙ ap (λ t. (string_bytes x.name, t) ∷ map named es) n.bytes
+noted_named (x ∷ es) (suc i) d e h n = ap (λ t. named x ∷ t) (noted_named es i d e (omega arith) (record { name = n.name; bytes = n.bytes }))
+
+pub noted_held : (es : List Entry) (i : ℕ) (d e : Entry) → i < length es → IsNoted es i d e → held_in (set es i e) ≡ held_in es
+noted_held es i d e h n = ap first_under (noted_named es i d e h n)
+
+pub noted_bytes : (es : List Entry) (i : ℕ) (d e : Entry) → i < length es → IsNoted es i d e → bytes_at (set es i e) (Some i) ≡ bytes_at es (Some i)
+noted_bytes [] i d e h n = absurd (omega arith)
+noted_bytes (x ∷ es) zero d e h n = n.bytes
+noted_bytes (x ∷ es) (suc i) d e h n = noted_bytes es i d e (omega arith) (record { name = n.name; bytes = n.bytes })
+
+pub noted_name : (es : List Entry) (i : ℕ) (d e : Entry) → i < length es → IsNoted es i d e → name_at (set es i e) (Some i) ≡ name_at es (Some i)
+noted_name [] i d e h n = absurd (omega arith)
+noted_name (x ∷ es) zero d e h n = ap Some n.name
+noted_name (x ∷ es) (suc i) d e h n = noted_name es i d e (omega arith) (record { name = n.name; bytes = n.bytes })
+
+pub noted_most : (es : List Entry) (i : ℕ) (d e : Entry) (count : ℕ) (name : List ℕ) → i < length es → IsNoted es i d e → e.most ≡ max (get_or es i d).most count →
+    most_in (set es i e) name ≡ most_with (name_at es (Some i)) count (most_in es) name
+noted_most [] i d e count name h n m = absurd (omega arith)
+noted_most (x ∷ es) zero d e count name h n m = ap (λ t. max (if bytes_eq t name then e.most else 0) (most_in es name)) n.name ∙ cases (bytes_eq (string_bytes x.name) name)
+  where
+    cases : (b : Bool) → max (if b then e.most else 0) (most_in es name) ≡ (if b then max (max (if b then x.most else 0) (most_in es name)) count else max (if b then x.most else 0) (most_in es name))
+    cases true = omega (arith, m)
+    cases false = refl
+noted_most (x ∷ es) (suc i) d e count name h n m =
+    ap (max (most_of_entry x name)) (noted_most es i d e count name (omega arith) (record { name = n.name; bytes = n.bytes }) m) ∙ below (name_at es (Some i))
+  where
+    cases : (b : Bool) → max (most_of_entry x name) (if b then max (most_in es name) count else most_in es name) ≡ (if b then max (max (most_of_entry x name) (most_in es name)) count else max (most_of_entry x name) (most_in es name))
+    cases true = omega arith
+    cases false = refl
+
+    below : (current : Option (List ℕ)) → max (most_of_entry x name) (most_with current count (most_in es) name) ≡ most_with current count (most_in (x ∷ es)) name
+    below None = refl
+    below (Some o) = cases (bytes_eq o name)
+
+-- nothing is noted where no entry is at the place
+pub no_name_past : (es : List Entry) (i : ℕ) → length es ≤ i → name_at es (Some i) ≡ None
+no_name_past [] i h = refl
+no_name_past (e ∷ es) zero h = absurd (omega arith)
+no_name_past (e ∷ es) (suc i) h = no_name_past es i (omega arith)
+
+pub nothing_noted : (es : List Entry) (i count : ℕ) (name : List ℕ) → length es ≤ i → most_in es name ≡ most_with (name_at es (Some i)) count (most_in es) name
+nothing_noted es i count name h = ap (λ current. most_with current count (most_in es) name) (sym (no_name_past es i h))
+
 -- ---- what is to come
 
 pub nothing_past : (bytes : List ℕ) (at : ℕ) → length bytes ≤ at → drop at bytes ≡ []
@@ -124,6 +201,18 @@ drop_drop (b ∷ bytes) (suc at) count = drop_drop bytes at count ∙ ap (λ n. 
 -- what is to come is the piece, and what is then to come
 pub first_then_rest : (bytes : List ℕ) (at count : ℕ) → drop at bytes ≡ take count (drop at bytes) ++ drop (at + count) bytes
 first_then_rest bytes at count = sym (take-append-drop count (drop at bytes)) ∙ ap (λ t. take count (drop at bytes) ++ t) (drop_drop bytes at count)
+
+-- the first bytes of the rest stand in the piece
+pub piece_then_rest : (bytes rest piece : List ℕ) (at count : ℕ) → rest ≡ drop at bytes → take count piece ≡ take count rest → drop at bytes ≡ take count piece ++ drop (at + count) bytes
+piece_then_rest bytes rest piece at count from same = first_then_rest bytes at count ∙ ap (λ t. t ++ drop (at + count) bytes) (sym (same ∙ ap (take count) from))
+
+-- nothing is left where nothing was put into a piece with room
+pub nothing_left : (bytes rest piece : List ℕ) (at count : ℕ) → rest ≡ drop at bytes → count ≡ min (length rest) (length piece) → count ≡ 0 → 0 < length piece → drop at bytes ≡ []
+nothing_left bytes rest piece at count from is none room = sym from ∙ empty rest (omega (arith, is, none, room))
+  where
+    empty : (rest : List ℕ) → length rest ≡ 0 → rest ≡ []
+    empty [] h = refl
+    empty (b ∷ rest) h = absurd (omega (arith, h))
 
 pub whole_rest : (bytes : List ℕ) (at : ℕ) → take (length bytes - at) (drop at bytes) ≡ drop at bytes
 whole_rest bytes at = take_rest bytes at

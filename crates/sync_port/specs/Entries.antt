@@ -1,13 +1,33 @@
 -- The entries of the files in memory.
-use Rattle.std.specs.Prelude.{◌≡◌, [], ◌∷◌, ℕ, zero, suc, List, false, if◌then◌else◌, Option, None, Some, string_bytes}
+use Rattle.std.specs.Prelude.{◌≡◌, [], ◌∷◌, ℕ, zero, suc, List, map, max, false, if◌then◌else◌, Option, None, Some, string_bytes}
 use Rattle.std.specs.Str.{bytes_eq}
 use Rattle.sync_port.specs.Ports.{Names}
 use Rattle.sync_port.specs.declared.entries.Entry.{Entry}
 
+-- the name of an entry, and the bytes under it
+abbrev pub named : Entry → List ℕ × List ℕ
+named e = (string_bytes e.name, e.bytes.items)
+
+-- the bytes that stand first under the name
+abbrev pub first_under : List (List ℕ × List ℕ) → Names
+first_under [] name = None
+first_under (file ∷ rest) name = if bytes_eq file.0 name then Some file.1 else first_under rest name
+
 -- the bytes of the first entry of the name
 abbrev pub held_in : List Entry → Names
-held_in [] name = None
-held_in (e ∷ rest) name = if bytes_eq (string_bytes e.name) name then Some e.bytes.items else held_in rest name
+held_in entries = first_under (map named entries)
+
+-- the name of the entry at a place
+abbrev pub name_at : List Entry → Option ℕ → Option (List ℕ)
+name_at entries None = None
+name_at [] (Some place) = None
+name_at (e ∷ rest) (Some zero) = Some (string_bytes e.name)
+name_at (e ∷ rest) (Some (suc place)) = name_at rest (Some place)
+
+-- the most bytes that were read after one opening of an entry of the name
+abbrev pub most_in : List Entry → List ℕ → ℕ
+most_in [] name = 0
+most_in (e ∷ rest) name = max (if bytes_eq (string_bytes e.name) name then e.most else 0) (most_in rest name)
 
 -- the bytes of the entry at a place
 abbrev pub entry_bytes : List Entry → ℕ → List ℕ

@@ -1,9 +1,9 @@
 -- What files and sinks in memory hold.
-use Rattle.std.specs.Prelude.{◌==◌, ℕ, List, Bool, Some, drop}
+use Rattle.std.specs.Prelude.{◌==◌, ℕ, List, Bool, Option, Some, drop}
 use Rattle.std.specs.List.{list_any}
 use Rattle.sync_port.specs.States.{next_number}
 use Rattle.sync_port.specs.Ports.{Names, FileContents, FilesState, SinkContents, SinkState}
-use Rattle.sync_port.specs.Entries.{held_in, bytes_at}
+use Rattle.sync_port.specs.Entries.{held_in, bytes_at, most_in, name_at}
 use Rattle.sync_port.specs.declared.mem_files.MemFiles.{MemFiles}
 use Rattle.sync_port.specs.declared.mem_sink.MemSink.{MemSink}
 
@@ -13,7 +13,11 @@ use Rattle.sync_port.specs.declared.mem_sink.MemSink.{MemSink}
 abbrev pub names_held : MemFiles → Names
 names_held s = held_in s.entries.items
 
--- the bytes still to come of the open file
+-- the name of the open file
+abbrev pub name_opened : MemFiles → Option (List ℕ)
+name_opened s = name_at s.entries.items s.opened
+
+-- the bytes still to come of it
 abbrev pub bytes_to_come : MemFiles → List ℕ
 bytes_to_come s = drop s.at (bytes_at s.entries.items s.opened)
 
@@ -29,13 +33,14 @@ bytes_taken s = s.taken
 abbrev pub bytes_since_open : MemFiles → ℕ
 bytes_since_open s = s.since_open
 
--- the largest number of bytes that were read after any one call of `open`
-abbrev pub most_taken : MemFiles → ℕ
-most_taken s = s.most
+-- the largest number of bytes that were read after one `open` of the name
+abbrev pub most_taken : MemFiles → List ℕ → ℕ
+most_taken s = most_in s.entries.items
 
 abbrev pub file_contents : MemFiles → FileContents
 file_contents s = record {
   held = names_held s;
+  current = name_opened s;
   to_come = bytes_to_come s;
   opened = opens_counted s;
   taken = bytes_taken s;

@@ -3,16 +3,18 @@
 ghost use Rattle.std.specs.Prelude.{◌≡◌, ◌≢◌, ◌<◌, ◌==◌, ℕ, List, IfSome, IfNone, OnOk, OnErr, None, Some, drop, length, take, min};
 ghost use Rattle.std.specs.List.{list_any};
 ghost use Rattle.sync_port.specs.States.{next_number};
-ghost use Rattle.sync_port.specs.Entries.{held_in, entry_bytes, bytes_at, IsPlaceOf};
+ghost use Rattle.sync_port.specs.Ports.{most_with};
+ghost use Rattle.sync_port.specs.Entries.{held_in, entry_bytes, bytes_at, most_in, name_at, IsPlaceOf};
 
 use std::alloc::Global;
 use sync_path::NoMemory;
 
-/// The bytes under a name.
+/// The bytes under a name, and the most of them that were read after one opening.
 #[derive(Drop)]
 pub(crate) struct Entry {
     pub(crate) name: String,
     pub(crate) bytes: Vec<u8>,
+    pub(crate) most: u64,
 }
 
 /// Counts a call, and says whether its number is listed.
@@ -25,10 +27,11 @@ pub(crate) fn counted(calls: &mut u64, listed: &[u64]) -> bool
 }
 
 /// The place of the name's entry.
-#[tactic(auto, using(crate::proofs::EntryLemmas::another_name, crate::proofs::EntryLemmas::place_found, crate::proofs::EntryLemmas::place_held, crate::proofs::EntryLemmas::all_others))]
+#[tactic(auto, using(crate::proofs::EntryLemmas::another_name, crate::proofs::EntryLemmas::place_found, crate::proofs::EntryLemmas::place_held, crate::proofs::EntryLemmas::place_named, crate::proofs::EntryLemmas::all_others))]
 pub(crate) fn place_of(entries: &[Entry], name: &str) -> Option<usize>
     ensures bound { IfSome result (λ place. place < length entries.now) }
     ensures first { IfSome result (IsPlaceOf name.now entries.now) }
+    ensures named { IfSome result (λ place. name_at entries.now (Some place) ≡ Some name.now) }
     ensures held { IfSome result (λ place. held_in entries.now name.now ≡ Some
         (entry_bytes entries.now place)) }
     ensures none { IfNone result (held_in entries.now name.now ≡ None) }
@@ -44,7 +47,7 @@ pub(crate) fn place_of(entries: &[Entry], name: &str) -> Option<usize>
 }
 
 /// Puts the bytes under the name, in place of any that it had. Where memory ran out the entries are as before.
-#[tactic(auto, using(crate::proofs::EntryLemmas::put_there, crate::proofs::EntryLemmas::put_leaves, crate::proofs::EntryLemmas::place_name, crate::proofs::EntryLemmas::pushed_there, crate::proofs::EntryLemmas::pushed_leaves))]
+#[tactic(auto, using(crate::proofs::EntryLemmas::put_there, crate::proofs::EntryLemmas::put_leaves, crate::proofs::EntryLemmas::place_name, crate::proofs::EntryLemmas::put_leaves_most, crate::proofs::EntryLemmas::pushed_there, crate::proofs::EntryLemmas::pushed_leaves, crate::proofs::EntryLemmas::pushed_leaves_most))]
 pub(crate) fn put(
     alloc: Global,
     entries: &mut Vec<Entry>,
@@ -54,6 +57,8 @@ pub(crate) fn put(
     ensures put { OnOk result (held_in entries.new.items name.now ≡ Some bytes.items) }
     ensures others { (other : List ℕ) → other ≢ name.now →
         held_in entries.new.items other ≡ held_in entries.old.items other }
+    ensures most { (other : List ℕ) →
+        most_in entries.new.items other ≡ most_in entries.old.items other }
     ensures unchanged { OnErr result (entries.new.items ≡ entries.old.items) }
 {
     if let Some(place) = place_of(entries, name) {
@@ -61,8 +66,28 @@ pub(crate) fn put(
         return Ok(());
     }
     let name = String::from_str(alloc, name)?;
-    entries.push(Entry { name, bytes })?;
+    entries.push(Entry {
+        name,
+        bytes,
+        most: 0,
+    })?;
     Ok(())
+}
+
+/// Notes that so many bytes of the entry at the place were read since it was opened, if one is given and there is one.
+#[tactic(auto, using(crate::proofs::EntryLemmas::noted_held, crate::proofs::EntryLemmas::noted_bytes, crate::proofs::EntryLemmas::noted_name, crate::proofs::EntryLemmas::noted_most, crate::proofs::EntryLemmas::nothing_noted))]
+pub(crate) fn note_read(entries: &mut Vec<Entry>, place: Option<usize>, count: u64)
+    ensures held { held_in entries.new.items ≡ held_in entries.old.items }
+    ensures bytes { bytes_at entries.new.items place ≡ bytes_at entries.old.items place }
+    ensures name { name_at entries.new.items place ≡ name_at entries.old.items place }
+    ensures most { (name : List ℕ) → most_in entries.new.items name ≡
+        most_with (name_at entries.old.items place) count (most_in entries.old.items) name }
+{
+    if let Some(place) = place {
+        if place < entries.len() {
+            entries[place].most = entries[place].most.max(count);
+        }
+    }
 }
 
 /// The bytes of the entry at the place, if one is given and there is one.

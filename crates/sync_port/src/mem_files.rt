@@ -2,7 +2,7 @@
 
 ghost use Rattle.std.specs.Prelude.{◌≡◌, ◌≢◌, ◌≤◌, ◌||◌, ◌&&◌, List, ℕ, [], None, Some, length, min, OnOk, OnErr, IfOk, is_some, is_none, if◌then◌else◌};
 
-use crate::entries::{Entry, bytes_from, bytes_in, copy_first, counted, place_of, put};
+use crate::entries::{Entry, bytes_from, bytes_in, copy_first, counted, note_read, place_of, put};
 use crate::{Files, PortFault};
 use std::alloc::Global;
 use sync_path::NoMemory;
@@ -22,23 +22,23 @@ pub struct MemFiles {
     opens: u64,
     taken: u64,
     since_open: u64,
-    most: u64,
     faults: u64,
 }
 
 impl MemFiles {
-    ghost use Rattle.sync_port.specs.InMemory.{names_held, bytes_to_come, opens_counted, bytes_taken, bytes_since_open, most_taken, file_contents, calls_that_fail, calls_made, faults_counted};
+    ghost use Rattle.sync_port.specs.InMemory.{names_held, name_opened, bytes_to_come, opens_counted, bytes_taken, bytes_since_open, most_taken, file_contents, calls_that_fail, calls_made, faults_counted};
 
     /// Files that hold nothing. `fails` are the numbers of the calls that fail.
     pub fn new(alloc: Global, fails: Vec<u64>) -> MemFiles
         ensures held { (name : List ℕ) → names_held result name ≡ None }
+        ensures current { name_opened result ≡ None }
         ensures rest { bytes_to_come result ≡ [] }
         ensures fails { calls_that_fail result ≡ fails.items }
         ensures calls { calls_made result ≡ 0 }
         ensures opened { opens_counted result ≡ 0 }
         ensures taken { bytes_taken result ≡ 0 }
         ensures since_open { bytes_since_open result ≡ 0 }
-        ensures most { most_taken result ≡ 0 }
+        ensures most { (name : List ℕ) → most_taken result name ≡ 0 }
         ensures faults { faults_counted result ≡ 0 }
     {
         MemFiles {
@@ -51,7 +51,6 @@ impl MemFiles {
             opens: 0,
             taken: 0,
             since_open: 0,
-            most: 0,
             faults: 0,
         }
     }
@@ -62,6 +61,7 @@ impl MemFiles {
         ensures put { OnOk result (names_held self.new name.now ≡ Some bytes.now) }
         ensures others { (other : List ℕ) → other ≢ name.now →
             names_held self.new other ≡ names_held self.old other }
+        ensures current { OnOk result (name_opened self.new ≡ None) }
         ensures rest { OnOk result (bytes_to_come self.new ≡ []) }
         ensures unchanged { OnErr result (file_contents self.new ≡ file_contents self.old) }
         ensures fails { calls_that_fail self.new ≡ calls_that_fail self.old }
@@ -69,7 +69,7 @@ impl MemFiles {
         ensures opened { opens_counted self.new ≡ opens_counted self.old }
         ensures taken { bytes_taken self.new ≡ bytes_taken self.old }
         ensures since_open { bytes_since_open self.new ≡ bytes_since_open self.old }
-        ensures most { most_taken self.new ≡ most_taken self.old }
+        ensures most { (other : List ℕ) → most_taken self.new other ≡ most_taken self.old other }
         ensures faults { faults_counted self.new ≡ faults_counted self.old }
     {
         let bytes = Vec::from_slice(self.alloc, bytes)?;
@@ -142,7 +142,7 @@ impl Files for MemFiles {
         self.at = self.at.saturating_add(count);
         self.taken = self.taken.saturating_add(count as u64);
         self.since_open = self.since_open.saturating_add(count as u64);
-        self.most = self.most.max(self.since_open);
+        note_read(&mut self.entries, self.opened, self.since_open);
         Ok(count)
     }
 }

@@ -9,10 +9,10 @@ use crate::{PortFault, SinkFailed};
 /// Files that are read, one at a time.
 ///
 /// `files` is what is known of the object: its contents, if they are known, which are the bytes under each name, the
-/// bytes still to come of the file that was opened last, how often `open` was called, how many bytes were read, how many
-/// since the last call of `open`, and the most after any one call of it; and its count of faults. What is held never
-/// changes, and contents that are known go on being known. The count never falls; where it stands at `u64::MAX`, a
-/// refused call passes for one that was counted.
+/// name of the open file and the bytes still to come of it, how often `open` was called, how many bytes were read, how
+/// many since the last call of `open`, and for each name the most after one `open` of it; and its count of faults. What
+/// is held never changes, and contents that are known go on being known. The count never falls; where it stands at
+/// `u64::MAX`, a refused call passes for one that was counted.
 pub trait Files {
     ghost files: { Self → FilesState };
 

@@ -15,7 +15,7 @@ pub const PIECE: usize = 65536;
 ///
 /// `ReadFault` comes only where a fault was counted or no file has the name, `TooLarge` exactly where no call failed
 /// and the file has more than `limit` bytes, and `Memory` where memory ran out. The file is opened once. Whatever is
-/// answered, at most one byte past the limit is read of it.
+/// answered, at most one byte past the limit is read of it, and none of another.
 pub fn read_whole<F: Files>(
     alloc: Global,
     files: &mut F,
