@@ -312,11 +312,11 @@ module _ (folder file : Operand) (before now : FilesState) where
   is_refused (Ok x) P h = h
   is_refused (Err r) P h = tt
 
-  pub set_refused : (r : Refusal) (result : Result (Vec ℕ Global) Refusal) (trees : List TreeState) → IsErrAnd result (λ e. e ≡ r) → Answers {X = List Change} (λ set cs. set ≡ cs) (IsSetOf file) (FILE_LIMIT ∷ []) before now (Err r) →
-      (tree : Option Store) → Answers HasItems (IsApply folder file tree) (FILE_LIMIT ∷ []) before now result
-  set_refused r result trees e a tree = then_handed_on (λ (set : List Change) cs. set ≡ cs) HasItems (IsSetOf file) (IsApplied folder.place tree) (FILE_LIMIT ∷ []) before now r result e a
+  pub set_refused : (r : Refusal) (result : Result (Vec ℕ Global) Refusal) (trees : List TreeState) → IsErrAnd result (λ e. e ≡ r) → Answers {X = List Change} (λ set cs. set ≡ cs) (IsSetOf file) ((file.text, FILE_LIMIT) ∷ []) before now (Err r) →
+      (tree : Option Store) → Answers HasItems (IsApply folder file tree) ((file.text, FILE_LIMIT) ∷ []) before now result
+  set_refused r result trees e a tree = then_handed_on (λ (set : List Change) cs. set ≡ cs) HasItems (IsSetOf file) (IsApplied folder.place tree) ((file.text, FILE_LIMIT) ∷ []) before now r result e a
 
-  pub not_begun : (tree : TreeState) (result : Result (Vec ℕ Global) Refusal) → IsRefused result → Answers HasItems (IsApply folder file tree.contents) (FILE_LIMIT ∷ []) before now result →
+  pub not_begun : (tree : TreeState) (result : Result (Vec ℕ Global) Refusal) → IsRefused result → Answers HasItems (IsApply folder file tree.contents) ((file.text, FILE_LIMIT) ∷ []) before now result →
       FindsText (IsApply folder file tree.contents) (Apply folder file) (record { files = before; trees = tree ∷ [] }) (record { files = now; trees = tree ∷ [] }) result
   not_begun tree result refused a = record {
     later = a.later;
@@ -332,7 +332,7 @@ module _ (folder file : Operand) (before now : FilesState) where
   tree_causes tree later (TreeFailed word) h = h
   tree_causes tree later (TreeDenied word) h = h
 
-  pub applied : (set : List Change) (tree later : TreeState) (result : Result (Vec ℕ Global) Refusal) → Answers {X = List Change} (λ set cs. set ≡ cs) (IsSetOf file) (FILE_LIMIT ∷ []) before now (Ok set) →
+  pub applied : (set : List Change) (tree later : TreeState) (result : Result (Vec ℕ Global) Refusal) → Answers {X = List Change} (λ set cs. set ≡ cs) (IsSetOf file) ((file.text, FILE_LIMIT) ∷ []) before now (Ok set) →
       AppliesSet HasItems folder.place set tree later result → FindsText (IsApply folder file tree.contents) (Apply folder file) (record { files = before; trees = tree ∷ [] }) (record { files = now; trees = later ∷ [] }) result
   applied set tree later result a b =
       let p : IsAllowed (IsSetOf file) before.contents (FilesCounted before now) (Ok set) = subst (λ cs. IsAllowed (IsSetOf file) before.contents (FilesCounted before now) (Ok cs)) (sym a.allowed.1) a.allowed.2 in
@@ -348,7 +348,7 @@ module _ (folder file : Operand) (before now : FilesState) where
       }
 
   -- the same, of the only tree of a list
-  pub applied_to_only : (set : List Change) (trees later : List TreeState) (result : Result (Vec ℕ Global) Refusal) → Answers {X = List Change} (λ set cs. set ≡ cs) (IsSetOf file) (FILE_LIMIT ∷ []) before now (Ok set) →
+  pub applied_to_only : (set : List Change) (trees later : List TreeState) (result : Result (Vec ℕ Global) Refusal) → Answers {X = List Change} (λ set cs. set ≡ cs) (IsSetOf file) ((file.text, FILE_LIMIT) ∷ []) before now (Ok set) →
       OfOnlyTree trees later (λ b n. AppliesSet HasItems folder.place set b n result) → FindsText (IsApply folder file (held_tree trees)) (Apply folder file) (record { files = before; trees = trees }) (record { files = now; trees = later }) result
   applied_to_only set [] later result a h = absurd h
   applied_to_only set (tree ∷ []) [] result a h = absurd h
@@ -357,7 +357,7 @@ module _ (folder file : Operand) (before now : FilesState) where
   applied_to_only set (tree ∷ (more ∷ trees)) later result a h = absurd h
 
   -- SET was refused, and the trees were not asked
-  pub not_begun_on : (trees : List TreeState) (r : Refusal) (result : Result (Vec ℕ Global) Refusal) → length trees ≡ 1 → IsErrAnd result (λ e. e ≡ r) → Answers {X = List Change} (λ set cs. set ≡ cs) (IsSetOf file) (FILE_LIMIT ∷ []) before now (Err r) →
+  pub not_begun_on : (trees : List TreeState) (r : Refusal) (result : Result (Vec ℕ Global) Refusal) → length trees ≡ 1 → IsErrAnd result (λ e. e ≡ r) → Answers {X = List Change} (λ set cs. set ≡ cs) (IsSetOf file) ((file.text, FILE_LIMIT) ∷ []) before now (Err r) →
       FindsText (IsApply folder file (held_tree trees)) (Apply folder file) (record { files = before; trees = trees }) (record { files = now; trees = trees }) result
   not_begun_on [] r result one e a = absurd (omega (arith, one))
   not_begun_on (tree ∷ []) r result one e a = not_begun tree result (is_refused result (λ e. e ≡ r) e) (set_refused r result (tree ∷ []) e a tree.contents)

@@ -1,5 +1,5 @@
 -- One check after another keeps what a function that makes them owes.
-use Rattle.std.proofs.Common.{◌≡◌, ◌+◌, ◌++◌, ◌≤◌, ℕ, List, [], ◌∷◌, sum, max, None, Some, Ok, Err, IsErrAnd, inl, inr, refl, sym, ap, subst, ◌∙◌, arith, length-append}
+use Rattle.std.proofs.Common.{◌≡◌, ◌+◌, ◌++◌, ◌≤◌, ℕ, List, [], ◌∷◌, max, None, Some, Ok, Err, IsErrAnd, inl, inr, refl, sym, ap, subst, ◌∙◌, arith, length-append}
 use Rattle.std.proofs.lemmas.List.Sums.{sum_by-append}
 use Rattle.std.proofs.lemmas.Result.{err_from_is_err_and}
 use Rattle.std.specs.declared.option.Option.{Option}
@@ -7,7 +7,7 @@ use Rattle.std.specs.declared.result.Result.{Result}
 use Rattle.sync_port.specs.States.{IfBoth}
 use Rattle.sync_port.specs.Ports.{FileContents, FilesState}
 use Rattle.sync_port.proofs.CallerLemmas.{both_more, both_then, both_alone, counted_since}
-use Rattle.treesync.specs.Checks.{Answers, Causes, Check, FilesCounted, IsAllowed, IsAllowedOf, IsRight, IsJudged, IsOfJob, Judged, Next, ReadsFiles, Then, Unless, past_largest}
+use Rattle.treesync.specs.Checks.{Answers, Causes, Check, FilesCounted, IsAllowed, IsAllowedOf, IsRight, IsJudged, IsOfJob, Judged, Limits, Next, ReadsFiles, Then, Unless, past_limit}
 use Rattle.treesync.specs.declared.refusal.Refusal.{Refusal}
 use Rattle.treesync.specs.declared.refusal.Failure.{Failure}
 use Rattle.treesync.specs.declared.refusal.Failure.TheVariants.{ReadFailed, TreeFailed, TreeDenied}
@@ -45,7 +45,7 @@ of_job_refused X Y OutOfMemory h = h
 of_job_refused X Y (CallFailed failure) h = h
 of_job_refused X Y (Found finding) h = h
 
-module _ {X Y A B : Type 0} (stands : X → A → Type 0) (stands' : Y → B → Type 0) (P : Check A) (Q : A → Check B) (limits : List ℕ) (before now : FilesState) where
+module _ {X Y A B : Type 0} (stands : X → A → Type 0) (stands' : Y → B → Type 0) (P : Check A) (Q : A → Check B) (limits : Limits) (before now : FilesState) where
   pub then_refused : (r : Refusal) → Answers stands P limits before now (Err r) → Answers stands' (Then P Q) limits before now (Err r)
   then_refused r a = record {
     later = a.later;
@@ -102,7 +102,7 @@ quietly (Err OutOfMemory) P h = tt
 quietly (Err (CallFailed failure)) P h = tt
 quietly (Err (Found finding)) P h = h
 
-pub then_judged : {X Y A B : Type 0} (stands : X → A → Type 0) (stands' : Y → B → Type 0) (P : Check A) (Q : A → Result B Refusal → Type 0) (limits : List ℕ) (before now : FilesState) (x : X) (result : Result Y Refusal) →
+pub then_judged : {X Y A B : Type 0} (stands : X → A → Type 0) (stands' : Y → B → Type 0) (P : Check A) (Q : A → Result B Refusal → Type 0) (limits : Limits) (before now : FilesState) (x : X) (result : Result Y Refusal) →
     Answers stands P limits before now (Ok x) → ((a : A) → stands x a → IsJudged stands' (Q a) result) → Answers stands' (Then P (λ a. Judged (Q a))) limits before now result
 then_judged stands stands' P Q limits before now x result a q =
     let judgement = q a.allowed.0 a.allowed.1 in
@@ -115,7 +115,7 @@ then_judged stands stands' P Q limits before now x result a q =
     }
 
 -- a refusal is one whatever would have stood for what the check gives
-pub alike_refused : {X Y A : Type 0} (stands : X → A → Type 0) (stands' : Y → A → Type 0) (P : Check A) (limits : List ℕ) (before now : FilesState) (r : Refusal) →
+pub alike_refused : {X Y A : Type 0} (stands : X → A → Type 0) (stands' : Y → A → Type 0) (P : Check A) (limits : Limits) (before now : FilesState) (r : Refusal) →
     Answers stands P limits before now (Err r) → Answers stands' P limits before now (Err r)
 alike_refused {X} {Y} stands stands' P limits before now r a = record {
   later = a.later;
@@ -167,26 +167,23 @@ second P Q counted counted' a (Some m) (Err (CallFailed failure)) h (inr q) = in
 second P Q counted counted' a (Some m) (Err (Found finding)) h q = inr (a, h, q)
 
 -- what was held stays for the second check
-still_held : {B : Type 0} (Q : Check B) (counted : Causes) (limits : List ℕ) (known mid : Option FileContents) (answer : Result B Refusal) → IfBoth known mid (ReadsFiles limits) →
+still_held : {B : Type 0} (Q : Check B) (counted : Causes) (limits : Limits) (known mid : Option FileContents) (answer : Result B Refusal) → IfBoth known mid (ReadsFiles limits) →
     IsAllowed Q mid counted answer → IsAllowed Q known counted answer
 still_held Q counted limits None None answer kept h = h
 still_held Q counted limits None (Some k) answer kept h = absurd kept
 still_held Q counted limits (Some m) None answer kept h = absurd kept
 still_held Q counted limits (Some m) (Some k) answer kept h = subst (λ held. IsRight Q held counted answer) kept.held h
 
-sum_of_both : (xs ys : List ℕ) → sum (xs ++ ys) ≡ sum xs + sum ys
-sum_of_both xs ys = sum_by-append (λ x. x) xs ys
+past_both : (xs ys : Limits) (name : List ℕ) → past_limit (xs ++ ys) name ≡ max (past_limit xs name) (past_limit ys name)
+past_both [] ys name = omega arith
+past_both (x ∷ xs) ys name = omega (arith, past_both xs ys name)
 
-past_both : (xs ys : List ℕ) → past_largest (xs ++ ys) ≡ max (past_largest xs) (past_largest ys)
-past_both [] ys = omega arith
-past_both (x ∷ xs) ys = omega (arith, past_both xs ys)
-
-reads_both : (limits more all : List ℕ) (a b c : Option FileContents) → limits ++ more ≡ all → IfBoth a b (ReadsFiles limits) → IfBoth b c (ReadsFiles more) → IfBoth a c (ReadsFiles all)
+reads_both : (limits more all : Limits) (a b c : Option FileContents) → limits ++ more ≡ all → IfBoth a b (ReadsFiles limits) → IfBoth b c (ReadsFiles more) → IfBoth a c (ReadsFiles all)
 reads_both limits more all a b c e h g = both_then a b c h g (λ m k j p q. subst (λ l. ReadsFiles l m j) e (record {
   held = q.held ∙ p.held;
   opened = omega (arith, p.opened, q.opened, length-append limits more);
-  taken = omega (arith, p.taken, q.taken, length-append limits more, sum_of_both limits more);
-  most = omega (arith, p.most, q.most, past_both limits more);
+  taken = omega (arith, p.taken, q.taken, length-append limits more, sum_by-append (λ (file : List ℕ × ℕ). file.1 + 1) limits more);
+  most = λ name. omega (arith, p.most name, q.most name, past_both limits more name);
 }))
 
 quiet_both : {X : Type 0} (result : Result X Refusal) (a b c : ℕ) → b ≡ a → Unless result (c ≡ b) → Unless result (c ≡ a)
@@ -196,7 +193,7 @@ quiet_both (Err OutOfMemory) a b c e h = h
 quiet_both (Err (CallFailed failure)) a b c e h = h
 quiet_both (Err (Found finding)) a b c e h = h ∙ e
 
-module _ {A B : Type 0} (P : Check A) (Q : A → Check B) (limits more : List ℕ) (before mid now : FilesState) (a : A) (later : before.faults ≤ mid.faults)
+module _ {A B : Type 0} (P : Check A) (Q : A → Check B) (limits more : Limits) (before mid now : FilesState) (a : A) (later : before.faults ≤ mid.faults)
     (reads : IfBoth before.contents mid.contents (ReadsFiles limits)) (first : IsAllowed P before.contents (FilesCounted before mid) (Ok a)) where
   allowed_next : (answer : Result B Refusal) → IsAllowed (Q a) mid.contents (FilesCounted mid now) answer → IsAllowed (Then P Q) before.contents (FilesCounted before now) answer
   allowed_next answer h =
@@ -209,7 +206,7 @@ module _ {A B : Type 0} (P : Check A) (Q : A → Check B) (limits more : List �
   allowed_of_next stands (Ok y) h = (h.0, h.1, allowed_next (Ok h.0) h.2)
   allowed_of_next stands (Err r) h = allowed_next (Err r) h
 
-pub then_next : {X Y A B : Type 0} (stands : X → A → Type 0) (stands' : Y → B → Type 0) (P : Check A) (Q : A → Check B) (limits more all : List ℕ) (before mid now : FilesState) (x : X) (result : Result Y Refusal) →
+pub then_next : {X Y A B : Type 0} (stands : X → A → Type 0) (stands' : Y → B → Type 0) (P : Check A) (Q : A → Check B) (limits more all : Limits) (before mid now : FilesState) (x : X) (result : Result Y Refusal) →
     limits ++ more ≡ all → Answers stands P limits before mid (Ok x) → ((a : A) → stands x a → Answers stands' (Q a) more mid now result) → Answers stands' (Then P Q) all before now result
 then_next stands stands' P Q limits more all before mid now x result e a q =
     let b = q a.allowed.0 a.allowed.1 in
@@ -222,7 +219,7 @@ then_next stands stands' P Q limits more all before mid now x result e a q =
     }
 
 -- the limits of files that are not reached
-pub fewer_files : {X A : Type 0} (stands : X → A → Type 0) (P : Check A) (limits more all : List ℕ) (before now : FilesState) (result : Result X Refusal) →
+pub fewer_files : {X A : Type 0} (stands : X → A → Type 0) (P : Check A) (limits more all : Limits) (before now : FilesState) (result : Result X Refusal) →
     limits ++ more ≡ all → Answers stands P limits before now result → Answers stands P all before now result
 fewer_files stands P limits more all before now result e a = record {
   later = a.later;
@@ -230,8 +227,8 @@ fewer_files stands P limits more all before now result e a = record {
   reads = both_more before.contents now.contents a.reads (λ m k p. subst (λ l. ReadsFiles l m k) e (record {
     held = p.held;
     opened = omega (arith, p.opened, length-append limits more);
-    taken = omega (arith, p.taken, length-append limits more, sum_of_both limits more);
-    most = omega (arith, p.most, past_both limits more);
+    taken = omega (arith, p.taken, length-append limits more, sum_by-append (λ (file : List ℕ × ℕ). file.1 + 1) limits more);
+    most = λ name. omega (arith, p.most name, past_both limits more name);
   }));
   allowed = a.allowed;
   job = a.job;
@@ -260,8 +257,8 @@ alone stands Q counted known (Err (CallFailed failure)) q = absurd q
 alone stands Q counted known (Err (Found finding)) q = alone_of Q counted known (Err (Found finding)) q tt
 
 -- nothing was read
-pub reads_nothing : (limits : List ℕ) (known : Option FileContents) → IfBoth known known (ReadsFiles limits)
-reads_nothing limits known = both_alone (ReadsFiles limits) known (λ m. record { held = refl; opened = omega arith; taken = omega arith; most = omega arith })
+pub reads_nothing : (limits : Limits) (known : Option FileContents) → IfBoth known known (ReadsFiles limits)
+reads_nothing limits known = both_alone (ReadsFiles limits) known (λ m. record { held = refl; opened = omega arith; taken = omega arith; most = λ name. omega arith })
 
 pub judged_alone : {X A : Type 0} (stands : X → A → Type 0) (Q : Result A Refusal → Type 0) (state : FilesState) (result : Result X Refusal) → IsJudged stands Q result → Answers stands (Judged Q) [] state state result
 judged_alone stands Q state result q = record {
@@ -272,7 +269,7 @@ judged_alone stands Q state result q = record {
   job = of_judged stands Q result q;
 }
 
-pub memory_alone : {X A : Type 0} (stands : X → A → Type 0) (P : Check A) (limits : List ℕ) (state : FilesState) → Answers {X = X} stands P limits state state (Err OutOfMemory)
+pub memory_alone : {X A : Type 0} (stands : X → A → Type 0) (P : Check A) (limits : Limits) (state : FilesState) → Answers {X = X} stands P limits state state (Err OutOfMemory)
 memory_alone stands P limits state = record {
   later = omega arith;
   quiet = tt;

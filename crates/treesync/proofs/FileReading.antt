@@ -1,8 +1,10 @@
 -- A file that is read piece by piece, as the check of its bytes.
-use Rattle.std.proofs.Common.{◌≡◌, ◌⊎◌, ◌+◌, ◌++◌, ◌<◌, ◌≤◌, ℕ, List, [], ◌∷◌, Bool, true, false, length, nat_lt, if◌then◌else◌, None, Some, Ok, Err, Option, inl, inr, refl, sym, ap, subst, ◌∙◌, arith, length-append, append-nil, take}
+use Rattle.std.proofs.Common.{◌≡◌, ◌⊎◌, ◌+◌, ◌++◌, ◌<◌, ◌≤◌, ℕ, List, [], ◌∷◌, Bool, true, false, length, nat_lt, if◌then◌else◌, None, Some, Ok, Err, Option, inl, inr, refl, sym, ap, subst, ◌∙◌, arith, length-append, length-take, append-nil, take}
 use Rattle.std.proofs.lemmas.Bool.Decides.{nat_tests}
+use Rattle.std.specs.Str.{bytes_eq}
 use Rattle.sync_port.specs.States.{IfBoth, IfKnown}
 use Rattle.sync_port.specs.Ports.{FileContents, FilesState, IsAbsentIn, OpenFaults, Opens, ReadFaults, Reads}
+use Rattle.sync_port.specs.Whole.{of_name}
 use Rattle.sync_port.specs.declared.faults.PortFault.{PortFault}
 use Rattle.sync_port.specs.declared.faults.PortFault.TheVariants.{Failed}
 use Rattle.sync_port.specs.declared.faults.PortFault.TheVariants as port
@@ -46,8 +48,20 @@ if_not_less m n x y h = if_false (nat_lt m n) x y (lt_false m n h)
 
 -- ---- what was read of the files
 
-reads_within : (limit : ℕ) (name bytes : List ℕ) (a b : Option FileContents) → length bytes ≤ limit + 1 → IfBoth a b (HasRead name bytes) → IfBoth a b (ReadsFiles (limit ∷ []))
-reads_within limit name bytes a b within h = both_more a b h (λ m k p. record { held = p.held; opened = omega (arith, p.opened); taken = omega (arith, p.taken, within); most = omega (arith, p.most, within) })
+pub of_name_grows : (name other : List ℕ) (count more : ℕ) → count ≤ more → of_name name count other ≤ of_name name more other
+of_name_grows name other count more le = cases (bytes_eq name other)
+  where
+    cases : (same : Bool) → (if same then count else 0) ≤ (if same then more else 0)
+    cases true = le
+    cases false = omega arith
+
+reads_within : (limit : ℕ) (name bytes : List ℕ) (a b : Option FileContents) → length bytes ≤ limit + 1 → IfBoth a b (HasRead name bytes) → IfBoth a b (ReadsFiles ((name, limit) ∷ []))
+reads_within limit name bytes a b within h = both_more a b h (λ m k p. record {
+  held = p.held;
+  opened = omega (arith, p.opened);
+  taken = omega (arith, p.taken, within);
+  most = λ other. omega (arith, p.most other, of_name_grows name other (length bytes) (limit + 1) within);
+})
 
 -- ---- a call that failed
 
@@ -68,11 +82,11 @@ memory_allowed : (limit word : ℕ) (name : List ℕ) (known : Option FileConten
 memory_allowed limit word name None counted = tt
 memory_allowed limit word name (Some m) counted = tt
 
-opened_within : (T : Type 0) (limit : ℕ) (name : List ℕ) (fault : PortFault) (a b : Option FileContents) → IfBoth a b (Opens {T = T} name (Err fault)) → IfBoth a b (ReadsFiles (limit ∷ []))
-opened_within T limit name fault a b h = both_more a b h (λ m k p. record { held = p.held; opened = omega (arith, p.opened); taken = omega (arith, p.taken); most = omega (arith, p.most) })
+opened_within : (T : Type 0) (limit : ℕ) (name : List ℕ) (fault : PortFault) (a b : Option FileContents) → IfBoth a b (Opens {T = T} name (Err fault)) → IfBoth a b (ReadsFiles ((name, limit) ∷ []))
+opened_within T limit name fault a b h = both_more a b h (λ m k p. record { held = p.held; opened = omega (arith, p.opened); taken = omega (arith, p.taken); most = λ other. omega (arith, ap (λ most. most other) p.most) })
 
 pub not_opened : {T : Type 0} (limit word : ℕ) (name : List ℕ) (before now : FilesState) (fault : PortFault) →
-    OpenFaults {T = T} name (Err fault) before now → IfKnown before now (Opens {T = T} name (Err fault)) → Answers AreBytes (IsFile limit word name) (limit ∷ []) before now (Err (call_refusal word fault))
+    OpenFaults {T = T} name (Err fault) before now → IfKnown before now (Opens {T = T} name (Err fault)) → Answers AreBytes (IsFile limit word name) ((name, limit) ∷ []) before now (Err (call_refusal word fault))
 not_opened {T = T} limit word name before now Failed f h = record {
   later = f.later;
   quiet = tt;
@@ -93,7 +107,7 @@ still_read : (name bytes buffer : List ℕ) (fault : PortFault) (a b c : Option 
 still_read name bytes buffer fault a b c h g = both_then a b c h g (λ m k j p q. subst (HasRead name bytes m) (sym q) p)
 
 pub not_read_on : (limit word : ℕ) (name bytes buffer : List ℕ) (before mid now : FilesState) (fault : PortFault) → length bytes ≤ limit → IsReading name bytes before mid →
-    ReadFaults (Err fault) mid now → IfKnown mid now (Reads buffer (Err fault)) → Answers AreBytes (IsFile limit word name) (limit ∷ []) before now (Err (call_refusal word fault))
+    ReadFaults (Err fault) mid now → IfKnown mid now (Reads buffer (Err fault)) → Answers AreBytes (IsFile limit word name) ((name, limit) ∷ []) before now (Err (call_refusal word fault))
 not_read_on limit word name bytes buffer before mid now Failed within r f h = record {
   later = omega (arith, r.faults, f.later);
   quiet = tt;
@@ -120,7 +134,7 @@ read_more name bytes buffer count before mid now within r f h = record {
 
 -- memory ran out on the way
 pub not_kept : (limit word : ℕ) (name bytes : List ℕ) (before now : FilesState) → length bytes ≤ limit + 1 → IsReading name bytes before now →
-    Answers AreBytes (IsFile limit word name) (limit ∷ []) before now (Err OutOfMemory)
+    Answers AreBytes (IsFile limit word name) ((name, limit) ∷ []) before now (Err OutOfMemory)
 not_kept limit word name bytes before now within r = record {
   later = omega (arith, r.faults);
   quiet = tt;
@@ -139,7 +153,7 @@ large_allowed limit word name bytes (Some m) (Some k) counted past h =
     sym (ap (file_answer limit word) h.bytes ∙ if_less limit (length (bytes ++ k.to_come)) _ _ (omega (arith, past, length-append bytes k.to_come)))
 
 pub too_large : (limit word : ℕ) (name bytes : List ℕ) (before now : FilesState) → length bytes ≡ limit + 1 → IsReading name bytes before now →
-    Answers AreBytes (IsFile limit word name) (limit ∷ []) before now (Err (Found (TooLarge word)))
+    Answers AreBytes (IsFile limit word name) ((name, limit) ∷ []) before now (Err (Found (TooLarge word)))
 too_large limit word name bytes before now past r = record {
   later = omega (arith, r.faults);
   quiet = r.faults;
@@ -156,16 +170,12 @@ whole_allowed limit word name bytes (Some m) (Some k) counted within h = sym (ap
 
 -- nothing more came, so these are the file's bytes
 pub all_read : (limit word : ℕ) (name bytes buffer : List ℕ) (count : ℕ) (before mid now : FilesState) → count ≡ 0 → 0 < length buffer → length bytes ≤ limit → IsReading name bytes before mid →
-    ReadFaults (Ok count) mid now → IfKnown mid now (Reads buffer (Ok count)) → Answers AreBytes (IsFile limit word name) (limit ∷ []) before now (Ok bytes)
+    ReadFaults (Ok count) mid now → IfKnown mid now (Reads buffer (Ok count)) → Answers AreBytes (IsFile limit word name) ((name, limit) ∷ []) before now (Ok bytes)
 all_read limit word name bytes buffer count before mid now none some within r f h = record {
   later = omega (arith, r.faults, f.later);
   quiet = f.done ∙ r.faults;
-  reads = both_then before.contents mid.contents now.contents r.read h (λ m k j p q. record {
-    held = q.held ∙ p.held;
-    opened = omega (arith, p.opened, q.opened);
-    taken = omega (arith, p.taken, q.taken, within);
-    most = omega (arith, p.most, p.since_open, q.most, q.since_open, none, within);
-  });
+  reads = reads_within limit name (bytes ++ take count buffer) before.contents now.contents (omega (arith, none, within, length-append bytes (take count buffer), length-take count buffer))
+      (more_read before.contents mid.contents now.contents name bytes buffer (bytes ++ take count buffer) count (omega (arith, none)) refl r.read h);
   allowed = (
     bytes,
     refl,

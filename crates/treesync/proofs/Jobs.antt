@@ -100,26 +100,26 @@ Commands = LogFile (Vec Command Global)
 module _ (snap_word : ℕ) (snap : List ℕ) (log_word : ℕ) (log : List ℕ) where
   -- the snapshot's file was refused
   pub snapshot_refused : (before now : FilesState) (r : Refusal) (result : Result (Vec ℕ Global) Refusal) → IsErrAnd result (λ e. e ≡ r) →
-      Answers {X = Snapshot} HasRows (IsSnapshot snap_word snap) (FILE_LIMIT ∷ []) before now (Err r) →
-      Answers HasItems (IsReplay snap_word snap log_word log) (FILE_LIMIT ∷ FILE_LIMIT ∷ []) before now result
+      Answers {X = Snapshot} HasRows (IsSnapshot snap_word snap) ((snap, FILE_LIMIT) ∷ []) before now (Err r) →
+      Answers HasItems (IsReplay snap_word snap log_word log) ((snap, FILE_LIMIT) ∷ (log, FILE_LIMIT) ∷ []) before now result
   snapshot_refused before now r result e a =
-      fewer_files HasItems (IsReplay snap_word snap log_word log) (FILE_LIMIT ∷ []) (FILE_LIMIT ∷ []) (FILE_LIMIT ∷ FILE_LIMIT ∷ []) before now result refl
-      (then_handed_on HasRows HasItems (IsSnapshot snap_word snap) _ (FILE_LIMIT ∷ []) before now r result e a)
+      fewer_files HasItems (IsReplay snap_word snap log_word log) ((snap, FILE_LIMIT) ∷ []) ((log, FILE_LIMIT) ∷ []) ((snap, FILE_LIMIT) ∷ (log, FILE_LIMIT) ∷ []) before now result refl
+      (then_handed_on HasRows HasItems (IsSnapshot snap_word snap) _ ((snap, FILE_LIMIT) ∷ []) before now r result e a)
 
   module _ (before mid now : FilesState) (snapshot : Snapshot) (result : Result (Vec ℕ Global) Refusal)
-      (first : Answers HasRows (IsSnapshot snap_word snap) (FILE_LIMIT ∷ []) before mid (Ok snapshot)) where
+      (first : Answers HasRows (IsSnapshot snap_word snap) ((snap, FILE_LIMIT) ∷ []) before mid (Ok snapshot)) where
     -- the log's file was refused
-    pub log_refused : (r : Refusal) → IsErrAnd result (λ e. e ≡ r) → Answers {X = Commands} (IsLogFile HasItems) (IsLog FULL_ALLOWANCE log_word log) (FILE_LIMIT ∷ []) mid now (Err r) →
-        Answers HasItems (IsReplay snap_word snap log_word log) (FILE_LIMIT ∷ FILE_LIMIT ∷ []) before now result
+    pub log_refused : (r : Refusal) → IsErrAnd result (λ e. e ≡ r) → Answers {X = Commands} (IsLogFile HasItems) (IsLog FULL_ALLOWANCE log_word log) ((log, FILE_LIMIT) ∷ []) mid now (Err r) →
+        Answers HasItems (IsReplay snap_word snap log_word log) ((snap, FILE_LIMIT) ∷ (log, FILE_LIMIT) ∷ []) before now result
     log_refused r e a =
-        then_next HasRows HasItems (IsSnapshot snap_word snap) _ (FILE_LIMIT ∷ []) (FILE_LIMIT ∷ []) (FILE_LIMIT ∷ FILE_LIMIT ∷ []) before mid now snapshot result refl first
-        (λ s h. then_handed_on (IsLogFile HasItems) HasItems (IsLog FULL_ALLOWANCE log_word log) _ (FILE_LIMIT ∷ []) mid now r result e a)
+        then_next HasRows HasItems (IsSnapshot snap_word snap) _ ((snap, FILE_LIMIT) ∷ []) ((log, FILE_LIMIT) ∷ []) ((snap, FILE_LIMIT) ∷ (log, FILE_LIMIT) ∷ []) before mid now snapshot result refl first
+        (λ s h. then_handed_on (IsLogFile HasItems) HasItems (IsLog FULL_ALLOWANCE log_word log) _ ((log, FILE_LIMIT) ∷ []) mid now r result e a)
 
     -- both files were read
-    pub log_read : (commands : Commands) → Answers (IsLogFile HasItems) (IsLog FULL_ALLOWANCE log_word log) (FILE_LIMIT ∷ []) mid now (Ok commands) →
+    pub log_read : (commands : Commands) → Answers (IsLogFile HasItems) (IsLog FULL_ALLOWANCE log_word log) ((log, FILE_LIMIT) ∷ []) mid now (Ok commands) →
         ((read : ReadLog) → IsLogFile HasItems commands read → IsJudged HasItems (IsAfter log_word (snapshot.0, snapshot.1.items) read) result) →
-        Answers HasItems (IsReplay snap_word snap log_word log) (FILE_LIMIT ∷ FILE_LIMIT ∷ []) before now result
+        Answers HasItems (IsReplay snap_word snap log_word log) ((snap, FILE_LIMIT) ∷ (log, FILE_LIMIT) ∷ []) before now result
     log_read commands a judged =
-        then_next HasRows HasItems (IsSnapshot snap_word snap) _ (FILE_LIMIT ∷ []) (FILE_LIMIT ∷ []) (FILE_LIMIT ∷ FILE_LIMIT ∷ []) before mid now snapshot result refl first
-        (λ s h. then_judged (IsLogFile HasItems) HasItems (IsLog FULL_ALLOWANCE log_word log) (IsAfter log_word s) (FILE_LIMIT ∷ []) mid now commands result a
+        then_next HasRows HasItems (IsSnapshot snap_word snap) _ ((snap, FILE_LIMIT) ∷ []) ((log, FILE_LIMIT) ∷ []) ((snap, FILE_LIMIT) ∷ (log, FILE_LIMIT) ∷ []) before mid now snapshot result refl first
+        (λ s h. then_judged (IsLogFile HasItems) HasItems (IsLog FULL_ALLOWANCE log_word log) (IsAfter log_word s) ((log, FILE_LIMIT) ∷ []) mid now commands result a
         (λ read l. subst (λ x. IsJudged HasItems (IsAfter log_word x read) result) h (judged read l)))

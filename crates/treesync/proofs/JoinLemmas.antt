@@ -15,7 +15,7 @@ use Rattle.canon_set.specs.Logs.{IsBrokenAt, IsTaken}
 use Rattle.canon_set.specs.Sums.{Sum, StandsFor}
 use Rattle.refluent.specs.Joints.{EachStandsFor}
 use Rattle.tool_words.specs.Words.{Operand}
-use Rattle.treesync.specs.Checks.{Answers, Check, IsJudged, Judged, Then}
+use Rattle.treesync.specs.Checks.{Answers, Check, IsJudged, Judged, Limits, Then}
 use Rattle.treesync.specs.Joining.{AllTaken, AreJoined, AreLogFiles, ArePrintable, IsJointOf, AreSumsOf, AreTaken, EachStands, EachTaken, IsFirstUntaken, IsJoined, IsLogs, commands_of, joint_version, left_after, log_limits}
 use Rattle.treesync.specs.Logs.{IsLog, IsLogFile, IsTotal, IsTotalOf, ReadLog, later_version}
 use Rattle.treesync.specs.declared.input.TheConstants.{FILE_LIMIT}
@@ -26,6 +26,7 @@ use Rattle.treesync.specs.declared.logs.Total.{Total}
 use Rattle.treesync.specs.declared.refusal.Refusal.{Refusal}
 use Rattle.treesync.specs.declared.refusal.Refusal.TheVariants.{OutOfMemory, Found}
 use Rattle.treesync.specs.declared.refusal.Finding.TheVariants.{NoTree}
+use Rattle.treesync.proofs.FileReading.{of_name_grows}
 use Rattle.treesync.proofs.CheckLemmas.{fewer_files, judged_alone, memory_alone, then_handed_on, then_judged, then_next, then_refused}
 
 -- ---- what stands for what
@@ -75,18 +76,19 @@ version_all logs reads i v h low e = sym (later_one v) ∙ ap (λ rest. later_ve
 -- ---- the files, one after another
 
 -- a check whose value goes into another
-given : {X A B : Type 0} (stands : X → A → Type 0) (stands' : X → B → Type 0) (P : Check A) (f : A → B) (limits : List ℕ) (before now : FilesState) (result : Result X Refusal) →
+given : {X A B : Type 0} (stands : X → A → Type 0) (stands' : X → B → Type 0) (P : Check A) (f : A → B) (limits : Limits) (before now : FilesState) (result : Result X Refusal) →
     ((x : X) (a : A) → stands x a → stands' x (f a)) → Answers stands P limits before now result → Answers stands' (Then P (λ a. Judged (λ answer. answer ≡ Ok (f a)))) limits before now result
 given stands stands' P f limits before now (Ok x) g a =
     then_judged stands stands' P (λ a answer. answer ≡ Ok (f a)) limits before now x (Ok x) a (λ a s. (f a, g x a s, refl))
 given stands stands' P f limits before now (Err r) g a = then_refused stands stands' P (λ a. Judged (λ answer. answer ≡ Ok (f a))) limits before now r a
 
 -- a file's limit may be larger
-wider : {X A : Type 0} (stands : X → A → Type 0) (P : Check A) (n m : ℕ) (before now : FilesState) (result : Result X Refusal) → n ≤ m → Answers stands P (n ∷ []) before now result → Answers stands P (m ∷ []) before now result
-wider stands P n m before now result le a = record {
+wider : {X A : Type 0} (stands : X → A → Type 0) (P : Check A) (name : List ℕ) (n m : ℕ) (before now : FilesState) (result : Result X Refusal) → n ≤ m →
+    Answers stands P ((name, n) ∷ []) before now result → Answers stands P ((name, m) ∷ []) before now result
+wider stands P name n m before now result le a = record {
   later = a.later;
   quiet = a.quiet;
-  reads = both_more before.contents now.contents a.reads (λ k j p. record { held = p.held; opened = p.opened; taken = omega (arith, p.taken); most = omega (arith, p.most) });
+  reads = both_more before.contents now.contents a.reads (λ k j p. record { held = p.held; opened = p.opened; taken = omega (arith, p.taken); most = λ other. omega (arith, p.most other, of_name_grows name other (n + 1) (m + 1) (omega (arith, le))) });
   allowed = a.allowed;
   job = a.job;
 }
@@ -100,13 +102,13 @@ AreRest done left rest mid now result =
     (reads : List ReadLog) → EachStands (IsLogFile IsTotal) done reads → Answers (λ logs more. AreLogFiles logs (reads ++ more)) (IsLogs left rest) (log_limits rest) mid now result
 
 -- it is all that is owed for the files
-abbrev pub LeadsTo : Check (List ReadLog) → List ℕ → FilesState → List (LogFile Total) → Allowance → List Operand → FilesState → Type 0
+abbrev pub LeadsTo : Check (List ReadLog) → Limits → FilesState → List (LogFile Total) → Allowance → List Operand → FilesState → Type 0
 LeadsTo P limits before done left rest mid = (now : FilesState) (result : Result LogFiles Refusal) → AreRest done left rest mid now result → Answers AreLogFiles P limits before now result
 
 pub none_done : (names : List Operand) (left : Allowance) (before : FilesState) (done : List (LogFile Total)) → done ≡ [] → LeadsTo (IsLogs left names) (log_limits names) before done left names before
 none_done names left before done e now result h = h [] (subst (λ d. EachStands (IsLogFile IsTotal) d []) (sym e) tt)
 
-module _ (P : Check (List ReadLog)) (limits : List ℕ) (before : FilesState) (done : List (LogFile Total)) (left : Allowance) (mid : FilesState) where
+module _ (P : Check (List ReadLog)) (limits : Limits) (before : FilesState) (done : List (LogFile Total)) (left : Allowance) (mid : FilesState) where
   -- all files were read
   pub all_done : (rest : List Operand) (logs : LogFiles) → rest ≡ [] → logs.items ≡ done → LeadsTo P limits before done left rest mid → Answers AreLogFiles P limits before mid (Ok logs)
   all_done [] logs e same h =
@@ -130,20 +132,20 @@ module _ (P : Check (List ReadLog)) (limits : List ℕ) (before : FilesState) (d
     leads_here = subst (λ rest. LeadsTo P limits before done left rest mid) (file_here names i placed named) leads
 
     -- the next of them is refused
-    pub log_refused : (r : Refusal) (result : Result LogFiles Refusal) → IsErrAnd result (λ e. e ≡ r) → Answers {X = LogFile Total} (IsLogFile IsTotal) (IsLog left word name) (left.bytes ∷ []) mid now (Err r) →
+    pub log_refused : (r : Refusal) (result : Result LogFiles Refusal) → IsErrAnd result (λ e. e ≡ r) → Answers {X = LogFile Total} (IsLogFile IsTotal) (IsLog left word name) ((name, left.bytes) ∷ []) mid now (Err r) →
         Answers AreLogFiles P limits before now result
     log_refused r result e a =
         leads_here now result (λ reads s.
-        fewer_files (λ l more. AreLogFiles l (reads ++ more)) (IsLogs left (record { text = name; place = word } ∷ drop (suc i) names)) (FILE_LIMIT ∷ []) (log_limits (drop (suc i) names)) (FILE_LIMIT ∷ log_limits (drop (suc i) names)) mid now result refl
-        (then_handed_on (IsLogFile IsTotal) (λ l more. AreLogFiles l (reads ++ more)) (IsLog left word name) _ (FILE_LIMIT ∷ []) mid now r result e (wider (IsLogFile IsTotal) (IsLog left word name) left.bytes FILE_LIMIT mid now (Err r) within a)))
+        fewer_files (λ l more. AreLogFiles l (reads ++ more)) (IsLogs left (record { text = name; place = word } ∷ drop (suc i) names)) ((name, FILE_LIMIT) ∷ []) (log_limits (drop (suc i) names)) ((name, FILE_LIMIT) ∷ log_limits (drop (suc i) names)) mid now result refl
+        (then_handed_on (IsLogFile IsTotal) (λ l more. AreLogFiles l (reads ++ more)) (IsLog left word name) _ ((name, FILE_LIMIT) ∷ []) mid now r result e (wider (IsLogFile IsTotal) (IsLog left word name) name left.bytes FILE_LIMIT mid now (Err r) within a)))
 
     -- or it is read
     pub log_read : (log : LogFile Total) (next : Allowance) → next ≡ record { bytes = left.bytes - log.size; commands = left.commands - log.count } →
-        Answers (IsLogFile IsTotal) (IsLog left word name) (left.bytes ∷ []) mid now (Ok log) → LeadsTo P limits before (done ++ log ∷ []) next (drop (suc i) names) now
+        Answers (IsLogFile IsTotal) (IsLog left word name) ((name, left.bytes) ∷ []) mid now (Ok log) → LeadsTo P limits before (done ++ log ∷ []) next (drop (suc i) names) now
     log_read log next e a later result h =
         leads_here later result (λ reads s.
-        then_next (IsLogFile IsTotal) (λ l more. AreLogFiles l (reads ++ more)) (IsLog left word name) _ (FILE_LIMIT ∷ []) (log_limits (drop (suc i) names)) (FILE_LIMIT ∷ log_limits (drop (suc i) names)) mid now later log result refl
-        (wider (IsLogFile IsTotal) (IsLog left word name) left.bytes FILE_LIMIT mid now (Ok log) within a) (λ read t.
+        then_next (IsLogFile IsTotal) (λ l more. AreLogFiles l (reads ++ more)) (IsLog left word name) _ ((name, FILE_LIMIT) ∷ []) (log_limits (drop (suc i) names)) ((name, FILE_LIMIT) ∷ log_limits (drop (suc i) names)) mid now later log result refl
+        (wider (IsLogFile IsTotal) (IsLog left word name) name left.bytes FILE_LIMIT mid now (Ok log) within a) (λ read t.
         given (λ l more. AreLogFiles l ((reads ++ read ∷ []) ++ more)) (λ l more. AreLogFiles l (reads ++ more)) (IsLogs (left_after left read) (drop (suc i) names)) (λ more. read ∷ more) (log_limits (drop (suc i) names)) now later result
         (λ l more k. subst (λ rs. AreLogFiles l rs) (append_assoc reads (read ∷ []) more) k)
         (subst (λ n. Answers (λ l more. AreLogFiles l ((reads ++ read ∷ []) ++ more)) (IsLogs n (drop (suc i) names)) (log_limits (drop (suc i) names)) now later result) (e ∙ left_same read t)
@@ -153,7 +155,7 @@ module _ (P : Check (List ReadLog)) (limits : List ℕ) (before : FilesState) (d
         left_same read t = λ j. record { bytes = left.bytes - t.size j; commands = left.commands - t.count j }
 
     -- and memory runs out
-    pub memory_out : (log : LogFile Total) (result : Result LogFiles Refusal) → IsErrAnd result (λ e. e ≡ OutOfMemory) → Answers (IsLogFile IsTotal) (IsLog left word name) (left.bytes ∷ []) mid now (Ok log) →
+    pub memory_out : (log : LogFile Total) (result : Result LogFiles Refusal) → IsErrAnd result (λ e. e ≡ OutOfMemory) → Answers (IsLogFile IsTotal) (IsLog left word name) ((name, left.bytes) ∷ []) mid now (Ok log) →
         Answers AreLogFiles P limits before now result
     memory_out log result e a =
         let p = err_from_is_err_and result e in

@@ -1,9 +1,9 @@
 -- What is made of rules and logs, from the merging of the logs.
-use Rattle.std.proofs.Common.{◌≡◌, ◌++◌, Bool, true, false, ℕ, List, Option, None, Some, Result, Ok, Err, IsErrAnd, inl, inr, sym, ap, subst}
+use Rattle.std.proofs.Common.{◌≡◌, Bool, true, false, List, Option, None, Some, Result, Ok, Err, IsErrAnd, inl, inr, sym, ap, subst}
 use Rattle.pref_list.specs.declared.rules.Rule.{Rule}
 use Rattle.sync_port.specs.Ports.{FileContents, FilesState, Names}
 use Rattle.tool_words.specs.Words.{Operand}
-use Rattle.treesync.specs.Checks.{Answers, Causes, Check, FilesCounted, IsAllowed, IsAllowedOf, IsJudged, IsRight, Judged, Then}
+use Rattle.treesync.specs.Checks.{Answers, Causes, Check, FilesCounted, IsAllowed, IsAllowedOf, IsJudged, IsRight, Judged, Limits, Then}
 use Rattle.treesync.specs.Logs.{ReadLog}
 use Rattle.treesync.specs.Merging.{AreAsked, Asked, IsMergedOf, OfMerging}
 use Rattle.treesync.specs.declared.merging.MergedLogs.{MergedLogs}
@@ -30,7 +30,7 @@ module _ {A : Type 0} (P Q : Check A) (wider : (held : Names) (failed : Bool) (a
   allowed_of_as stands known (Ok x) h = (h.0, h.1, allowed_as known (Ok h.0) h.2)
   allowed_of_as stands known (Err r) h = allowed_as known (Err r) h
 
-answers_as : {X A : Type 0} (stands : X → A → Type 0) (P Q : Check A) (limits : List ℕ) (before now : FilesState) (result : Result X Refusal) →
+answers_as : {X A : Type 0} (stands : X → A → Type 0) (P Q : Check A) (limits : Limits) (before now : FilesState) (result : Result X Refusal) →
     ((held : Names) (failed : Bool) (answer : Result A Refusal) → P held failed answer → Q held failed answer) → Answers stands P limits before now result → Answers stands Q limits before now result
 answers_as stands P Q limits before now result wider a = record {
   later = a.later;
@@ -78,7 +78,7 @@ module _ {B : Type 0} (made : List Rule → List ReadLog → Result B Refusal �
   as_one held failed answer (inl (r, p, e)) = subst (OfMerging made prefs files held failed) (sym e) (refused_as AreAsked made prefs files held failed r (λ rules reads h. ok_not_err (sym h)) p)
   as_one held failed answer (inr (asked, p, m)) = done_on held failed asked answer p m
 
-  module _ {Y : Type 0} (stands : Y → B → Type 0) (limits : List ℕ) (before now : FilesState) where
+  module _ {Y : Type 0} (stands : Y → B → Type 0) (limits : Limits) (before now : FilesState) where
     -- what is made of them, where they were merged
     pub made_of : (found : MergedLogs) (result : Result Y Refusal) → Answers IsMergedOf (OfMerging AreAsked prefs files) limits before now (Ok found) →
         ((asked : Asked) → IsMergedOf found asked → IsJudged stands (made asked.0 asked.1) result) → Answers stands (OfMerging made prefs files) limits before now result

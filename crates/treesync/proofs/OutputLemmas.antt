@@ -5,7 +5,7 @@ use Rattle.sync_command.specs.Changes.{Change}
 use Rattle.sync_port.specs.States.{FaultCounted}
 use Rattle.sync_port.specs.Ports.{FileContents, FilesState, Names, SinkState}
 use Rattle.treesync.specs.Answering.{StandsForOutput, of_explained, of_joint, of_text}
-use Rattle.treesync.specs.Checks.{Answers, Causes, Check, FilesCounted, HasItems, IsAllowed, IsJudged, Judged}
+use Rattle.treesync.specs.Checks.{Answers, Causes, Check, FilesCounted, HasItems, IsAllowed, IsJudged, Judged, Limits}
 use Rattle.treesync.specs.Conflicts.{ShowsClashes}
 use Rattle.treesync.specs.Ends.{EndsWith}
 use Rattle.treesync.specs.Explain.{ShowsReasons}
@@ -21,7 +21,7 @@ pub text_allowed : (P : Check (List ℕ)) (counted : Causes) (known : Option Fil
 text_allowed P counted None text h = tt
 text_allowed P counted (Some m) text h = inr (text, h, refl)
 
-text_answers : (P : Check (List ℕ)) (limits : List ℕ) (before now : FilesState) (found : Result (Vec ℕ Global) Refusal) → Answers HasItems P limits before now found → Answers StandsForOutput (AsText P) limits before now (of_text found)
+text_answers : (P : Check (List ℕ)) (limits : Limits) (before now : FilesState) (found : Result (Vec ℕ Global) Refusal) → Answers HasItems P limits before now found → Answers StandsForOutput (AsText P) limits before now (of_text found)
 text_answers P limits before now (Ok text) a = record {
   later = a.later;
   quiet = a.quiet;
@@ -36,11 +36,11 @@ text_answers P limits before now (Ok text) a = record {
 text_answers P limits before now (Err r) a = then_refused HasItems StandsForOutput P (λ text. Judged (λ answer. answer ≡ Ok (WholeText text))) limits before now r a
 
 -- the answer of a command that makes its text whole
-pub answers_text : (P : Check (List ℕ)) (limits : List ℕ) (before now : FilesState) (found : Result (Vec ℕ Global) Refusal) (result : Result Answer Refusal) → result ≡ of_text found → Answers HasItems P limits before now found →
+pub answers_text : (P : Check (List ℕ)) (limits : Limits) (before now : FilesState) (found : Result (Vec ℕ Global) Refusal) (result : Result Answer Refusal) → result ≡ of_text found → Answers HasItems P limits before now found →
     Answers StandsForOutput (AsText P) limits before now result
 answers_text P limits before now found result e a = subst (Answers StandsForOutput (AsText P) limits before now) (sym e) (text_answers P limits before now found a)
 
-joint_answers : (P : Check Output) (limits : List ℕ) (before now : FilesState) (found : Result Joined Refusal) → Answers ShowsClashes P limits before now found → Answers StandsForOutput P limits before now (of_joint found)
+joint_answers : (P : Check Output) (limits : Limits) (before now : FilesState) (found : Result Joined Refusal) → Answers ShowsClashes P limits before now found → Answers StandsForOutput P limits before now (of_joint found)
 joint_answers P limits before now (Ok joint) a = record {
   later = a.later;
   quiet = a.quiet;
@@ -51,11 +51,11 @@ joint_answers P limits before now (Ok joint) a = record {
 joint_answers P limits before now (Err r) a = alike_refused ShowsClashes StandsForOutput P limits before now r a
 
 -- the answer of a command that lists clashes
-pub answers_joint : (P : Check Output) (limits : List ℕ) (before now : FilesState) (found : Result Joined Refusal) (result : Result Answer Refusal) → result ≡ of_joint found → Answers ShowsClashes P limits before now found →
+pub answers_joint : (P : Check Output) (limits : Limits) (before now : FilesState) (found : Result Joined Refusal) (result : Result Answer Refusal) → result ≡ of_joint found → Answers ShowsClashes P limits before now found →
     Answers StandsForOutput P limits before now result
 answers_joint P limits before now found result e a = subst (Answers StandsForOutput P limits before now) (sym e) (joint_answers P limits before now found a)
 
-explained_answers : (P : Check Output) (limits : List ℕ) (before now : FilesState) (found : Result (Joined × List Change) Refusal) → Answers ShowsReasons P limits before now found → Answers StandsForOutput P limits before now (of_explained found)
+explained_answers : (P : Check Output) (limits : Limits) (before now : FilesState) (found : Result (Joined × List Change) Refusal) → Answers ShowsReasons P limits before now found → Answers StandsForOutput P limits before now (of_explained found)
 explained_answers P limits before now (Ok explained) a = record {
   later = a.later;
   quiet = a.quiet;
@@ -66,7 +66,7 @@ explained_answers P limits before now (Ok explained) a = record {
 explained_answers P limits before now (Err r) a = alike_refused ShowsReasons StandsForOutput P limits before now r a
 
 -- the answer of a command that lists reasons
-pub answers_explained : (P : Check Output) (limits : List ℕ) (before now : FilesState) (found : Result (Joined × List Change) Refusal) (result : Result Answer Refusal) → result ≡ of_explained found → Answers ShowsReasons P limits before now found →
+pub answers_explained : (P : Check Output) (limits : Limits) (before now : FilesState) (found : Result (Joined × List Change) Refusal) (result : Result Answer Refusal) → result ≡ of_explained found → Answers ShowsReasons P limits before now found →
     Answers StandsForOutput P limits before now result
 answers_explained P limits before now found result e a = subst (Answers StandsForOutput P limits before now) (sym e) (explained_answers P limits before now found a)
 

@@ -45,7 +45,7 @@ script_in (Err r) = Err r
 
 module _ (file : Operand) (before now : FilesState) where
   abbrev ReadsScript : Result (Version × Vec Op Global) Refusal → Type 0
-  ReadsScript found = Answers HasOps (IsScript file) (FILE_LIMIT ∷ []) before now found
+  ReadsScript found = Answers HasOps (IsScript file) ((file.text, FILE_LIMIT) ∷ []) before now found
 
   script_allowed : (found : Result (Version × Vec Op Global) Refusal) → ReadsScript found → IsAllowed (IsScript file) before.contents (FilesCounted before now) (script_in found)
   script_allowed (Ok read) a = subst (λ s. IsAllowed (IsScript file) before.contents (FilesCounted before now) (Ok s)) (sym a.allowed.1) a.allowed.2
@@ -69,7 +69,7 @@ module _ (file : Operand) (before now : FilesState) where
 
 module _ (folder file : Operand) (words : List Text) (before now : Outside) (status : ℕ) where
   -- from what the script is, and what was done with it
-  pub recorded_run : (found : Result (Version × Vec Op Global) Refusal) → Answers HasOps (IsScript file) (FILE_LIMIT ∷ []) before.files now.files found →
+  pub recorded_run : (found : Result (Version × Vec Op Global) Refusal) → Answers HasOps (IsScript file) ((file.text, FILE_LIMIT) ∷ []) before.files now.files found →
       CarriesOut folder file words before now status (script_in found) → RanRecording folder file words before now status
   recorded_run found a does = record {
     later = a.later;
@@ -82,7 +82,7 @@ module _ (folder file : Operand) (words : List Text) (before now : Outside) (sta
   }
 
   -- the script was carried out
-  pub recorded_ok : (version : Version) (ops : Vec Op Global) (found : Result (Version × Vec Op Global) Refusal) → found ≡ Ok (version, ops) → Answers HasOps (IsScript file) (FILE_LIMIT ∷ []) before.files now.files found →
+  pub recorded_ok : (version : Version) (ops : Vec Op Global) (found : Result (Version × Vec Op Global) Refusal) → found ≡ Ok (version, ops) → Answers HasOps (IsScript file) ((file.text, FILE_LIMIT) ∷ []) before.files now.files found →
       (script : List Op) → script ≡ ops.items → (result : Result ℕ RecordFault) (out : SinkState) → now.out ≡ out → OfOnlyTree before.trees now.trees (RecordsOnTree (version, script) result before.out out) →
       (p q : ℕ) → p ≡ folder.place → q ≡ file.place → status ≡ recording_status p q result → Says (recording_line words p q result) before.err now.err → RanRecording folder file words before now status
   recorded_ok version ops found is a script items result out same held p q at_p at_q z says =
@@ -94,7 +94,7 @@ module _ (folder file : Operand) (words : List Text) (before now : Outside) (sta
       ))
 
   -- it was refused
-  pub recorded_err : (r : Refusal) (found : Result (Version × Vec Op Global) Refusal) → found ≡ Err r → Answers HasOps (IsScript file) (FILE_LIMIT ∷ []) before.files now.files found → now.trees ≡ before.trees →
+  pub recorded_err : (r : Refusal) (found : Result (Version × Vec Op Global) Refusal) → found ≡ Err r → Answers HasOps (IsScript file) ((file.text, FILE_LIMIT) ∷ []) before.files now.files found → now.trees ≡ before.trees →
       Prints (Err r) status before.out now.out → Says (message_of words r) before.err now.err → RanRecording folder file words before now status
   recorded_err r found is a trees prints says = recorded_run found a (subst (λ f. CarriesOut folder file words before now status (script_in f)) (sym is) (trees, prints.1, prints.0, says))
 
@@ -102,7 +102,7 @@ module _ (folder file : Operand) (words : List Text) (before now : Outside) (sta
   pub unread : {r : Refusal} → r ≡ OutOfMemory → inputs_of now ≡ inputs_of before → Prints (Err r) status before.out now.out → Says (message_of words r) before.err now.err → RanRecording folder file words before now status
   unread {r} is same prints says = record {
     later = omega (arith, ap (λ s. s.files.faults) same);
-    reads = subst (λ s. IfBoth before.files.contents s.files.contents (ReadsFiles (FILE_LIMIT ∷ []))) (sym same) (reads_nothing (FILE_LIMIT ∷ []) before.files.contents);
+    reads = subst (λ s. IfBoth before.files.contents s.files.contents (ReadsFiles ((file.text, FILE_LIMIT) ∷ []))) (sym same) (reads_nothing ((file.text, FILE_LIMIT) ∷ []) before.files.contents);
     script = Err OutOfMemory;
     of_job = tt;
     quiet = tt;

@@ -128,7 +128,7 @@ module _ (folder file : Operand) (before now : FilesState) where
   FindsSeal trees later result = FindsText (IsSeal folder file (held_tree trees)) (Seal folder file) (record { files = before; trees = trees }) (record { files = now; trees = later }) result
 
   abbrev ReadsText : Result (Vec ℕ Global) Refusal → Type 0
-  ReadsText found = Answers HasItems (IsFile FILE_LIMIT file.place file.text) (FILE_LIMIT ∷ []) before now found
+  ReadsText found = Answers HasItems (IsFile FILE_LIMIT file.place file.text) ((file.text, FILE_LIMIT) ∷ []) before now found
 
   file_causes : (trees : List TreeState) (failure : Failure) → FilesCounted before now failure → InputsCounted (record { files = before; trees = trees }) (record { files = now; trees = trees }) failure
   file_causes trees (ReadFailed word) h = h
@@ -143,8 +143,8 @@ module _ (folder file : Operand) (before now : FilesState) where
   -- LOG was not read, and the tree was not asked
   pub not_read : (trees : List TreeState) (r : Refusal) (result : Result (Vec ℕ Global) Refusal) → IsErrAnd result (λ e. e ≡ r) → ReadsText (Err r) → FindsSeal trees trees result
   not_read trees r result e a =
-      let b : Answers HasItems (IsSeal folder file (held_tree trees)) (FILE_LIMIT ∷ []) before now result =
-      then_handed_on HasItems HasItems (IsFile FILE_LIMIT file.place file.text) (IsSealedOver folder.place file.place (held_tree trees)) (FILE_LIMIT ∷ []) before now r result e a in
+      let b : Answers HasItems (IsSeal folder file (held_tree trees)) ((file.text, FILE_LIMIT) ∷ []) before now result =
+      then_handed_on HasItems HasItems (IsFile FILE_LIMIT file.place file.text) (IsSealedOver folder.place file.place (held_tree trees)) ((file.text, FILE_LIMIT) ∷ []) before now r result e a in
       record {
         later = b.later;
         quiet = b.quiet;

@@ -23,7 +23,7 @@ use Rattle.tool_words.specs.Jobs.{job_of}
 use Rattle.tool_words.specs.Words.{Operand, Text}
 use Rattle.tool_words.specs.declared.job.Job.TheVariants.{Sync}
 use Rattle.treesync.specs.Answering.{output_of}
-use Rattle.treesync.specs.Checks.{Answers, FilesCounted, IsJudged, IsOfJob, ReadsFiles, Unless, seen}
+use Rattle.treesync.specs.Checks.{Answers, FilesCounted, IsJudged, IsOfJob, Limits, ReadsFiles, Unless, seen}
 use Rattle.treesync.specs.Ends.{Prints, Says, line_of}
 use Rattle.treesync.specs.Jobs.{Keeps, NoTreeFell, Outside, inputs_of, limits_of_words}
 use Rattle.treesync.specs.Joining.{commands_of, log_limits}
@@ -161,7 +161,7 @@ module _ (prefs : Option Operand) (folders files : List Operand) (before now : F
 
 -- ---- a run
 
-abbrev limits : Option Operand → List Operand → List ℕ
+abbrev limits : Option Operand → List Operand → Limits
 limits prefs files = preference_limits prefs ++ log_limits files
 
 module _ (prefs : Option Operand) (folders files : List Operand) (words : List Text) (before now : Outside) (status : ℕ) where

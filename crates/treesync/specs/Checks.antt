@@ -1,9 +1,10 @@
 -- Checks one after another, and what a function that makes them owes.
-use Rattle.std.specs.Prelude.{Vec, ◌≡◌, ◌⊎◌, ◌+◌, ◌≤◌, ℕ, List, [], ◌∷◌, length, sum, max, Bool, true, false, ⊤, None, Some, Ok, Err}
+use Rattle.std.specs.Prelude.{Vec, ◌≡◌, ◌⊎◌, ◌+◌, ◌≤◌, ℕ, List, [], ◌∷◌, length, sum_by, max, Bool, true, false, ⊤, None, Some, Ok, Err}
 use Rattle.std.specs.declared.option.Option.{Option}
 use Rattle.std.specs.declared.result.Result.{Result}
 use Rattle.sync_port.specs.States.{FaultCounted, IfKnown}
 use Rattle.sync_port.specs.Ports.{Names, FileContents, FilesState}
+use Rattle.sync_port.specs.Whole.{of_name}
 use Rattle.treesync.specs.declared.refusal.Refusal.{Refusal}
 use Rattle.treesync.specs.declared.refusal.Refusal.TheVariants.{InvalidArguments, OutOfMemory, CallFailed, Found}
 use Rattle.treesync.specs.declared.refusal.Failure.{Failure}
@@ -86,21 +87,25 @@ FilesCounted before now (ReadFailed word) = FaultCounted before now
 FilesCounted before now (TreeFailed word) = ⊥
 FilesCounted before now (TreeDenied word) = ⊥
 
--- one byte past the largest of the limits
-abbrev pub past_largest : List ℕ → ℕ
-past_largest [] = 0
-past_largest (limit ∷ limits) = max (limit + 1) (past_largest limits)
+-- the names of the files that are read, each with its limit in bytes
+abbrev pub Limits : Type 0
+Limits = List (List ℕ × ℕ)
 
--- What is held stays. At most so many files were opened as there are limits, and at most one byte past each limit was
--- read of all of them together, and past the largest limit of each.
-pub record ReadsFiles (limits : List ℕ) (m k : FileContents) : Type 0 where
+-- one byte past the largest limit that a name has, and 0 for a name that has none
+abbrev pub past_limit : Limits → List ℕ → ℕ
+past_limit [] name = 0
+past_limit (file ∷ files) name = max (of_name file.0 (file.1 + 1) name) (past_limit files name)
+
+-- What is held stays. Each of the files was opened once at most. After one opening at most one byte past its limit was
+-- read of a file, and of all together at most one byte past each limit; of a file that has none nothing was read.
+pub record ReadsFiles (limits : Limits) (m k : FileContents) : Type 0 where
   pub held : k.held ≡ m.held
   pub opened : k.opened ≤ m.opened + length limits
-  pub taken : k.taken ≤ m.taken + (sum limits + length limits)
-  pub most : k.most ≤ max m.most (past_largest limits)
+  pub taken : k.taken ≤ m.taken + sum_by (λ file. file.1 + 1) limits
+  pub most : (name : List ℕ) → k.most name ≤ max (m.most name) (past_limit limits name)
 
 -- what a function owes that makes a check and reads files of these limits
-pub record Answers {X A : Type 0} (stands : X → A → Type 0) (P : Check A) (limits : List ℕ) (before now : FilesState) (result : Result X Refusal) : Type 0 where
+pub record Answers {X A : Type 0} (stands : X → A → Type 0) (P : Check A) (limits : Limits) (before now : FilesState) (result : Result X Refusal) : Type 0 where
   pub later : before.faults ≤ now.faults
   pub quiet : Unless result (now.faults ≡ before.faults)
   pub reads : IfKnown before now (ReadsFiles limits)

@@ -12,7 +12,7 @@ use Rattle.tool_words.specs.declared.job.Job.TheVariants.{Help, Replay, Canon, C
 use Rattle.tool_words.specs.Jobs.{job_of}
 use Rattle.tool_words.specs.Help.{help_text}
 use Rattle.tool_words.specs.Trees.{folder_places}
-use Rattle.treesync.specs.Checks.{Causes, Check, HasItems, IsAllowed, IsAllowedOf, IsOfJob, Judged, ReadsFiles, Unless}
+use Rattle.treesync.specs.Checks.{Causes, Check, HasItems, IsAllowed, IsAllowedOf, IsOfJob, Judged, Limits, ReadsFiles, Unless}
 use Rattle.treesync.specs.Apply.{Applies, IsApply, IsNumbered, IsSetOf}
 use Rattle.treesync.specs.Canon.{IsCanon}
 use Rattle.treesync.specs.Catchup.{IsCatchup}
@@ -58,24 +58,24 @@ IsJobAnswer (Undo set) tree = AsText (IsUndo set.place set.text)
 IsJobAnswer (Catchup sets) tree = AsText (IsCatchup sets)
 IsJobAnswer (Rebase side prefs work sets) tree = AsText (IsRebase side prefs work sets)
 
--- the limits of the files that it reads, each once
-abbrev pub limits_of : Job → List ℕ
+-- the files that it reads, each once, with their limits
+abbrev pub limits_of : Job → Limits
 limits_of Help = []
-limits_of (Replay snap log) = FILE_LIMIT ∷ FILE_LIMIT ∷ []
-limits_of (Canon log) = FILE_LIMIT ∷ []
+limits_of (Replay snap log) = (snap.text, FILE_LIMIT) ∷ (log.text, FILE_LIMIT) ∷ []
+limits_of (Canon log) = (log.text, FILE_LIMIT) ∷ []
 limits_of (Conflicts logs) = log_limits logs
 limits_of (Merge prefs logs) = preference_limits prefs ++ log_limits logs
 limits_of (Transition number prefs logs) = preference_limits prefs ++ log_limits logs
-limits_of (Steer set logs) = FILE_LIMIT ∷ log_limits logs
-limits_of (Record folder script) = FILE_LIMIT ∷ []
-limits_of (Seal folder log) = FILE_LIMIT ∷ []
-limits_of (Apply folder set) = FILE_LIMIT ∷ []
+limits_of (Steer set logs) = (set.text, FILE_LIMIT) ∷ log_limits logs
+limits_of (Record folder script) = (script.text, FILE_LIMIT) ∷ []
+limits_of (Seal folder log) = (log.text, FILE_LIMIT) ∷ []
+limits_of (Apply folder set) = (set.text, FILE_LIMIT) ∷ []
 limits_of (Drill seed logs steps) = []
 limits_of (Sync prefs folders logs) = preference_limits prefs ++ log_limits logs
 limits_of (Explain prefs logs) = preference_limits prefs ++ log_limits logs
-limits_of (Undo set) = FILE_LIMIT ∷ []
+limits_of (Undo set) = (set.text, FILE_LIMIT) ∷ []
 limits_of (Catchup sets) = log_limits sets
-limits_of (Rebase side prefs work sets) = preference_limits prefs ++ work_limits sets
+limits_of (Rebase side prefs work sets) = preference_limits prefs ++ work_limits work sets
 
 -- ---- words
 
@@ -86,7 +86,7 @@ IsAnswerOf (Some job) tree = IsJobAnswer job tree
 abbrev pub IsAnswer : List (List ℕ) → Option Store → Check Output
 IsAnswer words tree = IsAnswerOf (job_of words) tree
 
-abbrev pub limits_of_words : Option Job → List ℕ
+abbrev pub limits_of_words : Option Job → Limits
 limits_of_words None = []
 limits_of_words (Some job) = limits_of job
 

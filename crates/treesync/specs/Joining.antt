@@ -12,7 +12,7 @@ use Rattle.refluent.specs.CommonTrees.{HasCommonTree}
 use Rattle.refluent.specs.FirstDisagreements.{IsRefused}
 use Rattle.refluent.specs.Joints.{EachStandsFor, Joined, StandsForAll}
 use Rattle.tool_words.specs.Words.{Operand}
-use Rattle.treesync.specs.Checks.{Check, Judged, Next, Then}
+use Rattle.treesync.specs.Checks.{Check, Judged, Limits, Next, Then}
 use Rattle.treesync.specs.Logs.{IsLog, IsLogFile, IsTotal, ReadLog, later_version}
 use Rattle.treesync.specs.declared.input.TheConstants.{FILE_LIMIT}
 use Rattle.treesync.specs.declared.joining.JoinedLogs.{JoinedLogs}
@@ -37,8 +37,8 @@ IsLogs left (file ∷ files) =
     Then (IsLogs (left_after left read) files) (λ reads. Judged (λ answer. answer ≡ Ok (read ∷ reads))))
 
 -- the limits of the files, each as if it were the only one
-abbrev pub log_limits : List Operand → List ℕ
-log_limits files = map (λ file. FILE_LIMIT) files
+abbrev pub log_limits : List Operand → Limits
+log_limits files = map (λ file. (file.text, FILE_LIMIT)) files
 
 -- ---- what was read of them
 

@@ -28,5 +28,6 @@ pub mod Headline
 pub mod SetHeadline
 pub mod RoundHeadline
 pub mod Completeness
+pub mod Promises
 pub mod Messages
 pub mod Ends

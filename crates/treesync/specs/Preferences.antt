@@ -9,7 +9,7 @@ use Rattle.pref_list.specs.declared.faults.RankFault.{RankFault}
 use Rattle.pref_list.specs.declared.faults.RankFault.TheVariants as rank
 use Rattle.pref_list.specs.declared.rules.Rule.{Rule}
 use Rattle.tool_words.specs.Words.{Operand}
-use Rattle.treesync.specs.Checks.{Check, Judged, Then}
+use Rattle.treesync.specs.Checks.{Check, Judged, Limits, Then}
 use Rattle.treesync.specs.Files.{IsFile, text_answer}
 use Rattle.treesync.specs.Joining.{commands_of}
 use Rattle.treesync.specs.Logs.{ReadLog}
@@ -30,9 +30,9 @@ abbrev pub ArePreferences : Option Operand → Check (List Rule)
 ArePreferences None = Judged (λ answer. answer ≡ Ok [])
 ArePreferences (Some file) = IsPreferenceFile file.place file.text
 
-abbrev pub preference_limits : Option Operand → List ℕ
+abbrev pub preference_limits : Option Operand → Limits
 preference_limits None = []
-preference_limits (Some file) = PREFS_LIMIT ∷ []
+preference_limits (Some file) = (file.text, PREFS_LIMIT) ∷ []
 
 -- the place of the file's word
 abbrev pub preference_word : Option Operand → ℕ

@@ -10,7 +10,7 @@ use Rattle.tool_words.specs.Words.{Operand}
 use Rattle.tool_words.specs.declared.job.Side.{Side}
 use Rattle.tool_words.specs.declared.job.Side.TheVariants.{Tree, Next as NextRound}
 use Rattle.treesync.specs.Catchup.{IsComposed, nets_of}
-use Rattle.treesync.specs.Checks.{Check, Judged, Next, Then}
+use Rattle.treesync.specs.Checks.{Check, Judged, Limits, Next, Then}
 use Rattle.treesync.specs.Joining.{AllTaken, EachTaken, IsLogs, joint_version, left_after, log_limits}
 use Rattle.treesync.specs.Logs.{IsLog, ReadLog}
 use Rattle.treesync.specs.Preferences.{ArePreferences, preference_word}
@@ -64,5 +64,5 @@ IsRebase side prefs work files =
     Then (ArePreferences prefs) (λ rules. IsRebaseOf side (preference_word prefs) rules work files)
 
 -- the limits of the work's file and of those of the sets
-abbrev pub work_limits : List Operand → List ℕ
-work_limits files = FILE_LIMIT ∷ log_limits files
+abbrev pub work_limits : Operand → List Operand → Limits
+work_limits work files = (work.text, FILE_LIMIT) ∷ log_limits files

@@ -51,7 +51,7 @@ CarriesOut folder file words before now status (Ok script) =
 -- A recording: its script was read, or refused as the file says, and then carried out.
 pub record RanRecording (folder file : Operand) (words : List Text) (before now : Outside) (status : ℕ) : Type 0 where
   pub later : before.files.faults ≤ now.files.faults
-  pub reads : IfKnown before.files now.files (ReadsFiles (FILE_LIMIT ∷ []))
+  pub reads : IfKnown before.files now.files (ReadsFiles ((file.text, FILE_LIMIT) ∷ []))
   pub script : Result Script Refusal
   pub of_job : IsOfJob script
   pub quiet : Unless script (now.files.faults ≡ before.files.faults)

@@ -38,7 +38,7 @@ pub fn apply_refusal(word: usize, fault: ApplyFault) -> Refusal
 /// The net set of the log in the file that the word names.
 #[tactic(auto, using(crate::proofs::CheckLemmas::then_judged, crate::proofs::CheckLemmas::then_handed_on))]
 fn set_of<F: Files>(alloc: Global, file: &Word<'_>, files: &mut F) -> Result<CanonSet, Refusal>
-    ensures { Answers (λ set cs. set ≡ cs) (IsSetOf file.now) (FILE_LIMIT ∷ [])
+    ensures { Answers (λ set cs. set ≡ cs) (IsSetOf file.now) ((file.now.text, FILE_LIMIT) ∷ [])
         (F.files files.old) (F.files files.new) result }
 {
     let log = read_sum(alloc, file.place(), file.as_str(), FULL_ALLOWANCE, files)?;

@@ -35,7 +35,7 @@ pub fn canon<F: Files>(
     name: &str,
     files: &mut F,
 ) -> Result<Vec<u8>, Refusal>
-    ensures { Answers HasItems (IsCanon word name.now) (FILE_LIMIT ∷ []) (F.files files.old)
+    ensures { Answers HasItems (IsCanon word name.now) ((name.now, FILE_LIMIT) ∷ []) (F.files files.old)
         (F.files files.new) result }
 {
     let log = read_sum(alloc, word, name, FULL_ALLOWANCE, files)?;

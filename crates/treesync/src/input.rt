@@ -45,7 +45,7 @@ pub fn read_file<F: Files>(
     limit: usize,
     files: &mut F,
 ) -> Result<Vec<u8>, Refusal>
-    ensures { Answers HasItems (IsFile limit word name.now) (limit ∷ []) (F.files files.old)
+    ensures { Answers HasItems (IsFile limit word name.now) ((name.now, limit) ∷ []) (F.files files.old)
         (F.files files.new) result }
 {
     match read_whole(alloc, files, name, limit) {
@@ -78,7 +78,7 @@ pub fn snapshot_file<F: Files>(
     name: &str,
     files: &mut F,
 ) -> Result<(Version, Vec<Row>), Refusal>
-    ensures answer { Answers HasRows (IsSnapshot word name.now) (FILE_LIMIT ∷ [])
+    ensures answer { Answers HasRows (IsSnapshot word name.now) ((name.now, FILE_LIMIT) ∷ [])
         (F.files files.old) (F.files files.new) result }
     ensures tree { IfOk result (λ r. IsRowTree r.1.items) }
     ensures printable { IfOk result (λ r. AllByRecursion (IsRowOfVersion r.0) r.1.items) }

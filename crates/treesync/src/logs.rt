@@ -181,7 +181,7 @@ pub fn read_log<F: Files, T: TakesCommands + Drop>(
 ) -> Result<LogFile<T>, Refusal>
     requires nothing { T.stands into [] }
     requires allowance { allowance.bytes ≤ FILE_LIMIT }
-    ensures { Answers (IsLogFile T.stands) (IsLog allowance word name.now) (allowance.bytes ∷ [])
+    ensures { Answers (IsLogFile T.stands) (IsLog allowance word name.now) ((name.now, allowance.bytes) ∷ [])
         (F.files files.old) (F.files files.new) result }
 {
     if let Err(fault) = files.open(name) {
@@ -216,7 +216,7 @@ pub fn read_sum<F: Files>(
     files: &mut F,
 ) -> Result<LogFile<Total>, Refusal>
     requires { allowance.bytes ≤ FILE_LIMIT }
-    ensures { Answers (IsLogFile IsTotal) (IsLog allowance word name.now) (allowance.bytes ∷ [])
+    ensures { Answers (IsLogFile IsTotal) (IsLog allowance word name.now) ((name.now, allowance.bytes) ∷ [])
         (F.files files.old) (F.files files.new) result }
 {
     let nothing = Total {

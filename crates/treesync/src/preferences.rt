@@ -42,7 +42,7 @@ fn preference_file<F: Files>(
     name: &str,
     files: &mut F,
 ) -> Result<Vec<Rule>, Refusal>
-    ensures { Answers HasItems (IsPreferenceFile word name.now) (PREFS_LIMIT ∷ [])
+    ensures { Answers HasItems (IsPreferenceFile word name.now) ((name.now, PREFS_LIMIT) ∷ [])
         (F.files files.old) (F.files files.new) result }
 {
     let bytes = read_file(alloc, word, name, PREFS_LIMIT, files)?;

@@ -41,7 +41,7 @@ fn script_file<F: Files>(
     file: &Word<'_>,
     files: &mut F,
 ) -> Result<(Version, Vec<Op>), Refusal>
-    ensures { Answers HasOps (IsScript file.now) (FILE_LIMIT ∷ [])
+    ensures { Answers HasOps (IsScript file.now) ((file.now.text, FILE_LIMIT) ∷ [])
         (F.files files.old) (F.files files.new) result }
 {
     let bytes = read_file(alloc, file.place(), file.as_str(), FILE_LIMIT, files)?;

@@ -1,6 +1,6 @@
 //! The top call: the answer of the words, and its end.
 
-ghost use Rattle.std.specs.Prelude.{◌≡◌, ◌⊎◌, ◌≤◌, [], None, Ok, Option, Some, length, map, string_bytes};
+ghost use Rattle.std.specs.Prelude.{◌≡◌, [], Ok, Option, Some, length, map, string_bytes};
 ghost use Rattle.sync_command.specs.Maps.{Store};
 ghost use Rattle.tool_words.specs.Jobs.{job_of};
 ghost use Rattle.tool_words.specs.LogCounts.{HasFewLogs};
@@ -8,11 +8,8 @@ ghost use Rattle.tool_words.specs.Help.{help_text};
 ghost use Rattle.tool_words.specs.Trees.{job_folders};
 ghost use Rattle.treesync.specs.Answering.{StandsForOutput};
 ghost use Rattle.treesync.specs.Checks.{Answers, HasItems, IsJudged, IsOne};
-ghost use Rattle.treesync.specs.Completeness.{CompletesJob};
-ghost use Rattle.treesync.specs.Headline.{CarriesOutRecord, KeepsUnready, PrintsApplied, PrintsChanges, PrintsMerger, PrintsRecorded, PrintsRules, PrintsSealed, PrintsSteered, PrintsTransition, ResumesApply, TellsClashes};
-ghost use Rattle.treesync.specs.Jobs.{FindsJob, HasItsTrees, IsAnswer, IsJobAnswer, Keeps, NoneFailed, inputs, limits_of, outside};
-ghost use Rattle.treesync.specs.RoundHeadline.{AnswersRound, JoinsReplicas, KeepsUnreadyRound, ResumesRound};
-ghost use Rattle.treesync.specs.SetHeadline.{PrintsCatchup, PrintsReasons, PrintsRebase, PrintsUndo};
+ghost use Rattle.treesync.specs.Jobs.{FindsJob, HasItsTrees, IsAnswer, IsJobAnswer, Keeps, inputs, limits_of, outside};
+ghost use Rattle.treesync.specs.Promises.{Promises};
 ghost use Rattle.treesync.specs.Runs.{EndsRight, IsAnswered, Runs, words_refusal};
 
 use crate::answer::{of_explained, of_joint, of_text};
@@ -197,7 +194,7 @@ fn run_words<F: Files, O: Sink, E: Sink>(
 /// work and the sets, from its side to the first merger. Without rules nothing of the work is undone by `tree`, and under
 /// `all 2` nothing of the sets by `next`.
 ///
-/// `trees` are those of the folders that the words name, in their order (`HasItsTrees`, which every clause asks for);
+/// `trees` are those of the folders that the words name, in their order (`HasItsTrees`, on which the promises stand);
 /// only `record`, `seal` and `apply` have one, and `sync` has one for each of its logs; `seal` only looks at it, and every
 /// other job leaves them as they are.
 ///
@@ -227,156 +224,13 @@ pub fn run<F: Files, O: Sink, E: Sink>(
     out: &mut O,
     err: &mut E,
 ) -> u8
-    ensures ran { HasItsTrees (map string_bytes words.now) trees.old.items →
-        Runs (map string_bytes words.now)
-        (outside (F.files files.old) (map (λ tree. live tree) trees.old.items) (O.sink out.old)
-        (E.sink err.old))
-        (outside (F.files files.new) (map (λ tree. live tree) trees.new.items) (O.sink out.new)
-        (E.sink err.new)) result }
-    ensures keeps { HasItsTrees (map string_bytes words.now) trees.old.items →
-        Keeps (map string_bytes words.now)
-        (outside (F.files files.old) (map (λ tree. live tree) trees.old.items) (O.sink out.old)
-        (E.sink err.old))
-        (outside (F.files files.new) (map (λ tree. live tree) trees.new.items) (O.sink out.new)
-        (E.sink err.new)) }
     ensures one { (tree : Store) → IsOne (IsAnswer (map string_bytes words.now) (Some tree)) }
-    ensures refused { HasItsTrees (map string_bytes words.now) trees.old.items → result ≡ 2 →
-        job_of (map string_bytes words.now) ≡ None }
-    ensures no_job { HasItsTrees (map string_bytes words.now) trees.old.items →
-        job_of (map string_bytes words.now) ≡ None →
-        (result ≡ 2) ⊎ (result ≡ 16) }
-    ensures merges { HasItsTrees (map string_bytes words.now) trees.old.items →
-        PrintsMerger (map string_bytes words.now)
+    ensures promises { HasItsTrees (map string_bytes words.now) trees.old.items →
+        Promises (map string_bytes words.now)
         (outside (F.files files.old) (map (λ tree. live tree) trees.old.items) (O.sink out.old)
         (E.sink err.old))
         (outside (F.files files.new) (map (λ tree. live tree) trees.new.items) (O.sink out.new)
         (E.sink err.new)) result }
-    ensures steers { HasItsTrees (map string_bytes words.now) trees.old.items →
-        PrintsSteered (map string_bytes words.now)
-        (outside (F.files files.old) (map (λ tree. live tree) trees.old.items) (O.sink out.old)
-        (E.sink err.old))
-        (outside (F.files files.new) (map (λ tree. live tree) trees.new.items) (O.sink out.new)
-        (E.sink err.new)) result }
-    ensures completes { HasItsTrees (map string_bytes words.now) trees.old.items →
-        CompletesJob (map string_bytes words.now)
-        (outside (F.files files.old) (map (λ tree. live tree) trees.old.items) (O.sink out.old)
-        (E.sink err.old))
-        (outside (F.files files.new) (map (λ tree. live tree) trees.new.items) (O.sink out.new)
-        (E.sink err.new)) result }
-    ensures rules { HasItsTrees (map string_bytes words.now) trees.old.items →
-        PrintsRules (map string_bytes words.now)
-        (outside (F.files files.old) (map (λ tree. live tree) trees.old.items) (O.sink out.old)
-        (E.sink err.old))
-        (outside (F.files files.new) (map (λ tree. live tree) trees.new.items) (O.sink out.new)
-        (E.sink err.new)) result }
-    ensures leads { HasItsTrees (map string_bytes words.now) trees.old.items →
-        PrintsTransition (map string_bytes words.now)
-        (outside (F.files files.old) (map (λ tree. live tree) trees.old.items) (O.sink out.old)
-        (E.sink err.old))
-        (outside (F.files files.new) (map (λ tree. live tree) trees.new.items) (O.sink out.new)
-        (E.sink err.new)) result }
-    ensures clashes { HasItsTrees (map string_bytes words.now) trees.old.items →
-        TellsClashes (map string_bytes words.now)
-        (outside (F.files files.old) (map (λ tree. live tree) trees.old.items) (O.sink out.old)
-        (E.sink err.old))
-        (outside (F.files files.new) (map (λ tree. live tree) trees.new.items) (O.sink out.new)
-        (E.sink err.new)) result }
-    ensures applies { HasItsTrees (map string_bytes words.now) trees.old.items →
-        PrintsApplied (map string_bytes words.now)
-        (outside (F.files files.old) (map (λ tree. live tree) trees.old.items) (O.sink out.old)
-        (E.sink err.old))
-        (outside (F.files files.new) (map (λ tree. live tree) trees.new.items) (O.sink out.new)
-        (E.sink err.new)) result }
-    ensures changes { HasItsTrees (map string_bytes words.now) trees.old.items →
-        PrintsChanges (map string_bytes words.now)
-        (outside (F.files files.old) (map (λ tree. live tree) trees.old.items) (O.sink out.old)
-        (E.sink err.old))
-        (outside (F.files files.new) (map (λ tree. live tree) trees.new.items) (O.sink out.new)
-        (E.sink err.new)) result }
-    ensures resumes { HasItsTrees (map string_bytes words.now) trees.old.items →
-        ResumesApply (map string_bytes words.now)
-        (outside (F.files files.old) (map (λ tree. live tree) trees.old.items) (O.sink out.old)
-        (E.sink err.old))
-        (outside (F.files files.new) (map (λ tree. live tree) trees.new.items) (O.sink out.new)
-        (E.sink err.new)) result }
-    ensures unready { HasItsTrees (map string_bytes words.now) trees.old.items →
-        KeepsUnready (map string_bytes words.now)
-        (outside (F.files files.old) (map (λ tree. live tree) trees.old.items) (O.sink out.old)
-        (E.sink err.old))
-        (outside (F.files files.new) (map (λ tree. live tree) trees.new.items) (O.sink out.new)
-        (E.sink err.new)) }
-    ensures seals { HasItsTrees (map string_bytes words.now) trees.old.items →
-        PrintsSealed (map string_bytes words.now)
-        (outside (F.files files.old) (map (λ tree. live tree) trees.old.items) (O.sink out.old)
-        (E.sink err.old))
-        (outside (F.files files.new) (map (λ tree. live tree) trees.new.items) (O.sink out.new)
-        (E.sink err.new)) result }
-    ensures records { HasItsTrees (map string_bytes words.now) trees.old.items →
-        PrintsRecorded (map string_bytes words.now)
-        (outside (F.files files.old) (map (λ tree. live tree) trees.old.items) (O.sink out.old)
-        (E.sink err.old))
-        (outside (F.files files.new) (map (λ tree. live tree) trees.new.items) (O.sink out.new)
-        (E.sink err.new)) result }
-    ensures carries_out { HasItsTrees (map string_bytes words.now) trees.old.items →
-        CarriesOutRecord (map string_bytes words.now)
-        (outside (F.files files.old) (map (λ tree. live tree) trees.old.items) (O.sink out.old)
-        (E.sink err.old))
-        (outside (F.files files.new) (map (λ tree. live tree) trees.new.items) (O.sink out.new)
-        (E.sink err.new)) result }
-    ensures rounds { HasItsTrees (map string_bytes words.now) trees.old.items →
-        AnswersRound (map string_bytes words.now)
-        (outside (F.files files.old) (map (λ tree. live tree) trees.old.items) (O.sink out.old)
-        (E.sink err.old))
-        (outside (F.files files.new) (map (λ tree. live tree) trees.new.items) (O.sink out.new)
-        (E.sink err.new)) result }
-    ensures syncs { HasItsTrees (map string_bytes words.now) trees.old.items →
-        ResumesRound (map string_bytes words.now)
-        (outside (F.files files.old) (map (λ tree. live tree) trees.old.items) (O.sink out.old)
-        (E.sink err.old))
-        (outside (F.files files.new) (map (λ tree. live tree) trees.new.items) (O.sink out.new)
-        (E.sink err.new)) result }
-    ensures joins { HasItsTrees (map string_bytes words.now) trees.old.items →
-        JoinsReplicas (map string_bytes words.now)
-        (outside (F.files files.old) (map (λ tree. live tree) trees.old.items) (O.sink out.old)
-        (E.sink err.old))
-        (outside (F.files files.new) (map (λ tree. live tree) trees.new.items) (O.sink out.new)
-        (E.sink err.new)) result }
-    ensures unready_round { HasItsTrees (map string_bytes words.now) trees.old.items →
-        KeepsUnreadyRound (map string_bytes words.now)
-        (outside (F.files files.old) (map (λ tree. live tree) trees.old.items) (O.sink out.old)
-        (E.sink err.old))
-        (outside (F.files files.new) (map (λ tree. live tree) trees.new.items) (O.sink out.new)
-        (E.sink err.new)) }
-    ensures undoes { HasItsTrees (map string_bytes words.now) trees.old.items →
-        PrintsUndo (map string_bytes words.now)
-        (outside (F.files files.old) (map (λ tree. live tree) trees.old.items) (O.sink out.old)
-        (E.sink err.old))
-        (outside (F.files files.new) (map (λ tree. live tree) trees.new.items) (O.sink out.new)
-        (E.sink err.new)) result }
-    ensures catches_up { HasItsTrees (map string_bytes words.now) trees.old.items →
-        PrintsCatchup (map string_bytes words.now)
-        (outside (F.files files.old) (map (λ tree. live tree) trees.old.items) (O.sink out.old)
-        (E.sink err.old))
-        (outside (F.files files.new) (map (λ tree. live tree) trees.new.items) (O.sink out.new)
-        (E.sink err.new)) result }
-    ensures rebases { HasItsTrees (map string_bytes words.now) trees.old.items →
-        PrintsRebase (map string_bytes words.now)
-        (outside (F.files files.old) (map (λ tree. live tree) trees.old.items) (O.sink out.old)
-        (E.sink err.old))
-        (outside (F.files files.new) (map (λ tree. live tree) trees.new.items) (O.sink out.new)
-        (E.sink err.new)) result }
-    ensures explains { HasItsTrees (map string_bytes words.now) trees.old.items →
-        PrintsReasons (map string_bytes words.now)
-        (outside (F.files files.old) (map (λ tree. live tree) trees.old.items) (O.sink out.old)
-        (E.sink err.old))
-        (outside (F.files files.new) (map (λ tree. live tree) trees.new.items) (O.sink out.new)
-        (E.sink err.new)) result }
-    ensures done { HasItsTrees (map string_bytes words.now) trees.old.items →
-        result ≤ 1 → NoneFailed
-        (outside (F.files files.old) (map (λ tree. live tree) trees.old.items) (O.sink out.old)
-        (E.sink err.old))
-        (outside (F.files files.new) (map (λ tree. live tree) trees.new.items) (O.sink out.new)
-        (E.sink err.new)) }
 {
     run_words(alloc, words, files, trees, out, err)
 }

@@ -49,7 +49,7 @@ pub fn undo<F: Files>(
     name: &str,
     files: &mut F,
 ) -> Result<Vec<u8>, Refusal>
-    ensures { Answers HasItems (IsUndo word name.now) (FILE_LIMIT ∷ []) (F.files files.old)
+    ensures { Answers HasItems (IsUndo word name.now) ((name.now, FILE_LIMIT) ∷ []) (F.files files.old)
         (F.files files.new) result }
 {
     let log = read_sum(alloc, word, name, FULL_ALLOWANCE, files)?;

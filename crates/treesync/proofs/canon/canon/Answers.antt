@@ -9,5 +9,5 @@ use Rattle.treesync.proofs.canon.canon.Goals as goal
 
 pub returns : goal.returns
 returns g c =
-    then_judged (IsLogFile IsTotal) HasItems (IsLog FULL_ALLOWANCE c.args.word c.args.name.now) (IsNet c.args.word) (FILE_LIMIT ∷ [])
+    then_judged (IsLogFile IsTotal) HasItems (IsLog FULL_ALLOWANCE c.args.word c.args.name.now) (IsNet c.args.word) ((c.args.name.now, FILE_LIMIT) ∷ [])
     (g.F.Files.files c.args.files.now) (g.F.Files.files c.read_sum.new.files) c.in_ok-log.log c.net_text.result c.in_ok-log.ensures (λ read h. c.net_text.ensures read h)

@@ -12,16 +12,16 @@ use Rattle.treesync.proofs.rebase.rebase_under.Goals as goal
 
 pub returns-in_err-log : goal.returns-in_err-log
 returns-in_err-log g c =
-    fewer_files HasItems _ (FILE_LIMIT ∷ []) (log_limits c.args.names.now) _ _ _ _ refl
+    fewer_files HasItems _ ((c.args.work.now.text, FILE_LIMIT) ∷ []) (log_limits c.args.names.now) _ _ _ _ refl
     (then_handed_on (IsLogFile IsTotal) HasItems (IsLog FULL_ALLOWANCE c.args.work.now.place c.args.work.now.text)
-    (λ read. Then (IsLogs (left_after FULL_ALLOWANCE read) c.args.names.now) (λ reads. Judged (IsRebased c.args.wanted.now.side c.args.wanted.now.word c.args.wanted.now.rules.items c.args.work.now.place c.args.names.now read reads))) (FILE_LIMIT ∷ [])
+    (λ read. Then (IsLogs (left_after FULL_ALLOWANCE read) c.args.names.now) (λ reads. Judged (IsRebased c.args.wanted.now.side c.args.wanted.now.word c.args.wanted.now.rules.items c.args.work.now.place c.args.names.now read reads))) ((c.args.work.now.text, FILE_LIMIT) ∷ [])
     (g.F.Files.files c.args.files.now) (g.F.Files.files c.read_sum.new.files) c.in_err-log.field-0.0 c.from_residual.result c.from_residual.ensures.1
     (rw (c.place.ensures, c.as_str.ensures) at c.in_err-log.ensures))
 
 pub returns-in_err-sets : goal.returns-in_err-sets
 returns-in_err-sets g c =
     then_next (IsLogFile IsTotal) HasItems (IsLog FULL_ALLOWANCE c.args.work.now.place c.args.work.now.text)
-    (λ read. Then (IsLogs (left_after FULL_ALLOWANCE read) c.args.names.now) (λ reads. Judged (IsRebased c.args.wanted.now.side c.args.wanted.now.word c.args.wanted.now.rules.items c.args.work.now.place c.args.names.now read reads))) (FILE_LIMIT ∷ []) (log_limits c.args.names.now) _
+    (λ read. Then (IsLogs (left_after FULL_ALLOWANCE read) c.args.names.now) (λ reads. Judged (IsRebased c.args.wanted.now.side c.args.wanted.now.word c.args.wanted.now.rules.items c.args.work.now.place c.args.names.now read reads))) ((c.args.work.now.text, FILE_LIMIT) ∷ []) (log_limits c.args.names.now) _
     (g.F.Files.files c.args.files.now) (g.F.Files.files c.read_sum.new.files) (g.F.Files.files c.read_logs.new.files) c.in_ok-log.log c.from_residual-in_err-sets.result refl (rw (c.place.ensures, c.as_str.ensures) at c.in_ok-log.ensures) (λ read h.
     then_handed_on {X = LogFiles} AreLogFiles HasItems (IsLogs (left_after FULL_ALLOWANCE read) c.args.names.now) (λ reads. Judged (IsRebased c.args.wanted.now.side c.args.wanted.now.word c.args.wanted.now.rules.items c.args.work.now.place c.args.names.now read reads)) (log_limits c.args.names.now)
     (g.F.Files.files c.read_sum.new.files) (g.F.Files.files c.read_logs.new.files) c.in_err-sets.field-0.0 c.from_residual-in_err-sets.result c.from_residual-in_err-sets.ensures.1
@@ -31,7 +31,7 @@ returns-in_err-sets g c =
 pub returns : goal.returns
 returns g c =
     then_next (IsLogFile IsTotal) HasItems (IsLog FULL_ALLOWANCE c.args.work.now.place c.args.work.now.text)
-    (λ read. Then (IsLogs (left_after FULL_ALLOWANCE read) c.args.names.now) (λ reads. Judged (IsRebased c.args.wanted.now.side c.args.wanted.now.word c.args.wanted.now.rules.items c.args.work.now.place c.args.names.now read reads))) (FILE_LIMIT ∷ []) (log_limits c.args.names.now) _
+    (λ read. Then (IsLogs (left_after FULL_ALLOWANCE read) c.args.names.now) (λ reads. Judged (IsRebased c.args.wanted.now.side c.args.wanted.now.word c.args.wanted.now.rules.items c.args.work.now.place c.args.names.now read reads))) ((c.args.work.now.text, FILE_LIMIT) ∷ []) (log_limits c.args.names.now) _
     (g.F.Files.files c.args.files.now) (g.F.Files.files c.read_sum.new.files) (g.F.Files.files c.read_logs.new.files) c.in_ok-log.log c.rebased.result refl (rw (c.place.ensures, c.as_str.ensures) at c.in_ok-log.ensures) (λ read h.
     then_judged AreLogFiles HasItems (IsLogs (left_after FULL_ALLOWANCE read) c.args.names.now) (λ reads. IsRebased c.args.wanted.now.side c.args.wanted.now.word c.args.wanted.now.rules.items c.args.work.now.place c.args.names.now read reads) (log_limits c.args.names.now)
     (g.F.Files.files c.read_sum.new.files) (g.F.Files.files c.read_logs.new.files) c.in_ok-sets.sets c.rebased.result
