@@ -2,7 +2,8 @@
 use Rattle.std.specs.Prelude.{◌≡◌, ◌⊎◌, ◌==◌, ◌≤◌, ◌++◌, [], List, ℕ, Ok, Err, codes, length, take, if◌then◌else◌}
 use Rattle.std.specs.declared.result.Result.{Result}
 use Rattle.sync_port.specs.States.{FaultCounted, IfKnown}
-use Rattle.sync_port.specs.Ports.{SinkContents, SinkState}
+use Rattle.sync_port.specs.Ports.{SinkContents, SinkFaults, SinkState}
+use Rattle.sync_port.specs.Sending.{Sends}
 use Rattle.sync_port.specs.declared.faults.SinkFailed.{SinkFailed}
 use Rattle.treesync.specs.Messages.{status_of, message_of, what_line}
 use Rattle.treesync.specs.Outputs.{ClashLines, Output, ReasonLines, WholeText, status_in, text_in}
@@ -43,6 +44,11 @@ end_line status =
 abbrev pub line_of : List (List ℕ) → Result Output Refusal → ℕ → List ℕ
 line_of words (Ok output) status = end_line status
 line_of words (Err r) status = message_of words r
+
+-- a line was sent, or its first bytes where a fault was counted
+pub record SendsLine {T : Type 0} (line : List ℕ) (result : Result T SinkFailed) (before now : SinkState) : Type 0 where
+  pub faults : SinkFaults result before now
+  pub contents : IfKnown before now (Sends line result)
 
 -- the line, or its first bytes where a fault was counted
 pub record SaysLine (line : List ℕ) (counted : Type 0) (m k : SinkContents) : Type 0 where

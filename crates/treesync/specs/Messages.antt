@@ -8,6 +8,8 @@ use Rattle.treesync.specs.declared.refusal.Failure.{Failure}
 use Rattle.treesync.specs.declared.refusal.Failure.TheVariants.{ReadFailed, TreeFailed, TreeDenied}
 use Rattle.treesync.specs.declared.refusal.Finding.{Finding}
 use Rattle.treesync.specs.declared.refusal.Finding.TheVariants.{TooLarge, Text, NoTree, NoCommonTree, NoSuchLog, NoCommand, Diverged, Blocked, NotDrawn, DoesNotFit, CanAdd, OpRefused, NoFollow, NotTaken}
+use Rattle.treesync.specs.declared.report.Line.{Line}
+use Rattle.treesync.specs.declared.report.Line.TheVariants as line
 use Rattle.tool_words.specs.Operands.{text_at}
 use Rattle.log_text.specs.declared.faults.TextKind.{TextKind}
 use Rattle.log_text.specs.declared.faults.TextKind.TheVariants as kind
@@ -98,6 +100,14 @@ path_line word what path = line_at (codes "treesync: " ∷ word ∷ codes ": " �
 -- `treesync: WORD: can add log LOG at PATH`
 abbrev pub can_add_line : List ℕ → ℕ → Node → List ℕ
 can_add_line word log path = line_at (codes "treesync: " ∷ word ∷ codes ": " ∷ codes "can add log " ∷ decimal log ∷ codes " at " ∷ []) path
+
+-- the whole line, from what it says
+abbrev pub line_text : List (List ℕ) → Line → List ℕ
+line_text words (line.OfFile word what) = file_line (text_at words word) what.now
+line_text words (line.OfLine word number what) = numbered_line (text_at words word) (decimal number) what.now
+line_text words (line.OfPath word what path) = path_line (text_at words word) what.now path.now
+line_text words (line.OfLogs first second path) = disagreement_line first second path.now
+line_text words (line.CanAdd word log path) = can_add_line (text_at words word) log path.now
 
 -- the line of a finding; a log's command, a rule and an operation are one line after their number
 abbrev pub finding_message : List (List ℕ) → Finding → List ℕ

@@ -6,9 +6,9 @@ ghost use Rattle.sync_port.specs.Ports.{SinkFaults};
 ghost use Rattle.sync_port.specs.Sending.{Sends};
 ghost use Rattle.treesync.specs.Answering.{output_of};
 ghost use Rattle.treesync.specs.Conflicts.{clash_lines};
-ghost use Rattle.treesync.specs.Ends.{Prints, PrintsAll, Says, end_line, line_of};
+ghost use Rattle.treesync.specs.Ends.{Prints, PrintsAll, Says, SendsLine, end_line, line_of};
 ghost use Rattle.treesync.specs.Explain.{reason_lines};
-ghost use Rattle.treesync.specs.Messages.{status_of, failure_status, finding_status, message_of, failure_message, finding_message, what_line, file_line, numbered_line, line_at, path_line, disagreement_line, can_add_line, kind_name, why_name};
+ghost use Rattle.treesync.specs.Messages.{status_of, failure_status, finding_status, message_of, failure_message, finding_message, what_line, file_line, numbered_line, line_at, line_text, path_line, disagreement_line, can_add_line, kind_name, why_name};
 ghost use Rattle.treesync.specs.Outputs.{ClashLines, ReasonLines, WholeText, status_in, text_in};
 ghost use Rattle.treesync.specs.Writing.{WriteFaults, WritesLines};
 ghost use Rattle.tool_words.specs.Operands.{text_at};
@@ -126,9 +126,7 @@ fn send_all<E: Sink>(err: &mut E, texts: &[&[u8]]) -> Result<(), SinkFailed>
 
 /// Sends the line `treesync: WHAT`.
 fn say_what<'a, E: Sink>(err: &mut E, what: &'a str) -> Result<(), SinkFailed>
-    ensures faults { SinkFaults result (E.sink err.old) (E.sink err.new) }
-    ensures contents { IfKnown (E.sink err.old) (E.sink err.new)
-        (Sends (what_line what.now) result) }
+    ensures { SendsLine (what_line what.now) result (E.sink err.old) (E.sink err.new) }
 {
     let program: &'a str = texts::PROGRAM;
     let end: &'a str = texts::LINE_END;
@@ -142,9 +140,8 @@ fn say_of_file<'a, E: Sink>(
     place: usize,
     what: &'a str,
 ) -> Result<(), SinkFailed>
-    ensures faults { SinkFaults result (E.sink err.old) (E.sink err.new) }
-    ensures contents { IfKnown (E.sink err.old) (E.sink err.new)
-        (Sends (file_line (text_at (map string_bytes words.now) place) what.now) result) }
+    ensures { SendsLine (file_line (text_at (map string_bytes words.now) place) what.now) result
+        (E.sink err.old) (E.sink err.new) }
 {
     let program: &'a str = texts::PROGRAM;
     let word: &'a str = operand_text(words, place);
@@ -170,10 +167,8 @@ fn say_of_line<E: Sink>(
     number: u128,
     what: &str,
 ) -> Result<(), SinkFailed>
-    ensures faults { SinkFaults result (E.sink err.old) (E.sink err.new) }
-    ensures contents { IfKnown (E.sink err.old) (E.sink err.new)
-        (Sends (numbered_line (text_at (map string_bytes words.now) place) (decimal number)
-        what.now) result) }
+    ensures { SendsLine (numbered_line (text_at (map string_bytes words.now) place) (decimal number)
+        what.now) result (E.sink err.old) (E.sink err.new) }
 {
     let mut digits = Buffer::new();
     send_all(
@@ -208,9 +203,8 @@ fn say_disagreement<E: Sink>(
     second: u32,
     path: &Path,
 ) -> Result<(), SinkFailed>
-    ensures faults { SinkFaults result (E.sink err.old) (E.sink err.new) }
-    ensures contents { IfKnown (E.sink err.old) (E.sink err.new)
-        (Sends (disagreement_line first second path.now) result) }
+    ensures { SendsLine (disagreement_line first second path.now) result (E.sink err.old)
+        (E.sink err.new) }
 {
     let mut first_digits = Buffer::new();
     let mut second_digits = Buffer::new();
@@ -237,9 +231,8 @@ fn say_of_path<E: Sink>(
     what: &str,
     path: &Path,
 ) -> Result<(), SinkFailed>
-    ensures faults { SinkFaults result (E.sink err.old) (E.sink err.new) }
-    ensures contents { IfKnown (E.sink err.old) (E.sink err.new)
-        (Sends (path_line (text_at (map string_bytes words.now) place) what.now path.now) result) }
+    ensures { SendsLine (path_line (text_at (map string_bytes words.now) place) what.now path.now)
+        result (E.sink err.old) (E.sink err.new) }
 {
     send_line_at(
         err,
@@ -261,9 +254,8 @@ fn say_can_add<E: Sink>(
     log: u32,
     path: &Path,
 ) -> Result<(), SinkFailed>
-    ensures faults { SinkFaults result (E.sink err.old) (E.sink err.new) }
-    ensures contents { IfKnown (E.sink err.old) (E.sink err.new)
-        (Sends (can_add_line (text_at (map string_bytes words.now) place) log path.now) result) }
+    ensures { SendsLine (can_add_line (text_at (map string_bytes words.now) place) log path.now) result
+        (E.sink err.old) (E.sink err.new) }
 {
     let mut digits = Buffer::new();
     send_line_at(
@@ -280,65 +272,143 @@ fn say_can_add<E: Sink>(
     )
 }
 
-/// Sends the line of a finding.
-fn say_finding<E: Sink>(err: &mut E, words: &[String], finding: &Finding) -> Result<(), SinkFailed>
-    ensures faults { SinkFaults result (E.sink err.old) (E.sink err.new) }
-    ensures contents { IfKnown (E.sink err.old) (E.sink err.new)
-        (Sends (finding_message (map string_bytes words.now) finding.now) result) }
+/// What the line of a finding says after the program's name. Words count from 0, lines and logs from 1.
+#[derive(Clone, Copy)]
+pub(crate) enum Line<'a> {
+    /// `WORD: WHAT`
+    OfFile {
+        word: usize,
+        what: &'static str,
+    },
+    /// `WORD: line NUMBER: WHAT`
+    OfLine {
+        word: usize,
+        number: u128,
+        what: &'static str,
+    },
+    /// `WORD: WHAT PATH`
+    OfPath {
+        word: usize,
+        what: &'static str,
+        path: &'a Path,
+    },
+    /// `logs FIRST and SECOND: no common tree at PATH`
+    OfLogs {
+        first: u32,
+        second: u32,
+        path: &'a Path,
+    },
+    /// `WORD: can add log LOG at PATH`
+    CanAdd {
+        word: usize,
+        log: u32,
+        path: &'a Path,
+    },
+}
+
+/// What the line of a finding says. A log's command, a rule and an operation are one line after their number.
+fn finding_line(finding: &Finding) -> Line<'_>
+    ensures { (words : List (List ℕ)) → line_text words result ≡ finding_message words finding.now }
 {
     match finding {
-        Finding::TooLarge { word } => say_of_file(err, words, *word, texts::TOO_LARGE),
-        Finding::Text { word, fault } => {
-            say_of_line(err, words, *word, fault.line as u128, kind_text(fault.kind))
-        }
-        Finding::NoTree { word, number } => {
-            say_of_line(err, words, *word, *number as u128 + 1, texts::NO_TREE)
-        }
+        Finding::TooLarge { word } => Line::OfFile {
+            word: *word,
+            what: texts::TOO_LARGE,
+        },
+        Finding::Text { word, fault } => Line::OfLine {
+            word: *word,
+            number: fault.line as u128,
+            what: kind_text(fault.kind),
+        },
+        Finding::NoTree { word, number } => Line::OfLine {
+            word: *word,
+            number: *number as u128 + 1,
+            what: texts::NO_TREE,
+        },
         Finding::NoCommonTree {
             first,
             second,
             path,
-        } => say_disagreement(err, *first, *second, path),
-        Finding::NoSuchLog { word, number } => {
-            say_of_line(err, words, *word, *number as u128 + 1, texts::NO_SUCH_LOG)
-        }
-        Finding::NoCommand { word, number } => {
-            say_of_line(
-                err,
-                words,
-                *word,
-                *number as u128 + 1,
-                texts::NO_SUCH_COMMAND,
-            )
-        }
-        Finding::Diverged { word, path } => {
-            say_of_path(err, words, *word, texts::DIVERGED_AT, path)
-        }
-        Finding::Blocked { word, path } => say_of_path(err, words, *word, texts::BLOCKED_AT, path),
-        Finding::NotDrawn { word, path } => {
-            say_of_path(err, words, *word, texts::NOT_DRAWN, path)
-        }
-        Finding::DoesNotFit { word, path } => {
-            say_of_path(err, words, *word, texts::DOES_NOT_FIT, path)
-        }
-        Finding::CanAdd { word, log, path } => say_can_add(err, words, *word, *log, path),
-        Finding::NoFollow { word, path } => {
-            say_of_path(err, words, *word, texts::DOES_NOT_FOLLOW, path)
-        }
-        Finding::OpRefused { word, number, why } => {
-            say_of_line(err, words, *word, *number as u128 + 1, why_text(*why))
-        }
-        Finding::NotTaken { word, number } => {
-            say_of_line(err, words, *word, *number as u128 + 1, texts::NOT_TAKEN)
-        }
+        } => Line::OfLogs {
+            first: *first,
+            second: *second,
+            path,
+        },
+        Finding::NoSuchLog { word, number } => Line::OfLine {
+            word: *word,
+            number: *number as u128 + 1,
+            what: texts::NO_SUCH_LOG,
+        },
+        Finding::NoCommand { word, number } => Line::OfLine {
+            word: *word,
+            number: *number as u128 + 1,
+            what: texts::NO_SUCH_COMMAND,
+        },
+        Finding::Diverged { word, path } => Line::OfPath {
+            word: *word,
+            what: texts::DIVERGED_AT,
+            path,
+        },
+        Finding::Blocked { word, path } => Line::OfPath {
+            word: *word,
+            what: texts::BLOCKED_AT,
+            path,
+        },
+        Finding::NotDrawn { word, path } => Line::OfPath {
+            word: *word,
+            what: texts::NOT_DRAWN,
+            path,
+        },
+        Finding::DoesNotFit { word, path } => Line::OfPath {
+            word: *word,
+            what: texts::DOES_NOT_FIT,
+            path,
+        },
+        Finding::CanAdd { word, log, path } => Line::CanAdd {
+            word: *word,
+            log: *log,
+            path,
+        },
+        Finding::NoFollow { word, path } => Line::OfPath {
+            word: *word,
+            what: texts::DOES_NOT_FOLLOW,
+            path,
+        },
+        Finding::OpRefused { word, number, why } => Line::OfLine {
+            word: *word,
+            number: *number as u128 + 1,
+            what: why_text(*why),
+        },
+        Finding::NotTaken { word, number } => Line::OfLine {
+            word: *word,
+            number: *number as u128 + 1,
+            what: texts::NOT_TAKEN,
+        },
+    }
+}
+
+/// Sends the line of a finding.
+fn say_line<E: Sink>(err: &mut E, words: &[String], line: Line<'_>) -> Result<(), SinkFailed>
+    ensures { SendsLine (line_text (map string_bytes words.now) line.entry) result
+        (E.sink err.old) (E.sink err.new) }
+{
+    match line {
+        Line::OfFile { word, what } => say_of_file(err, words, word, what),
+        Line::OfLine { word, number, what } => say_of_line(err, words, word, number, what),
+        Line::OfPath { word, what, path } => say_of_path(err, words, word, what, path),
+        Line::OfLogs {
+            first,
+            second,
+            path,
+        } => say_disagreement(err, first, second, path),
+        Line::CanAdd { word, log, path } => say_can_add(err, words, word, log, path),
     }
 }
 
 /// Sends the line of a call that was refused.
 fn say_failure<E: Sink>(err: &mut E, words: &[String], failure: Failure) -> Result<(), SinkFailed>
-    ensures faults { SinkFaults result (E.sink err.old) (E.sink err.new) }
-    ensures contents { IfKnown (E.sink err.old) (E.sink err.new)
-        (Sends (failure_message (map string_bytes words.now) failure) result) }
+    ensures { SendsLine (failure_message (map string_bytes words.now) failure) result
+        (E.sink err.old) (E.sink err.new) }
 {
     match failure {
         Failure::ReadFailed { word } => say_of_file(err, words, word, texts::READ_FAILED),
@@ -349,15 +419,14 @@ fn say_failure<E: Sink>(err: &mut E, words: &[String], failure: Failure) -> Resu
 
 /// Sends the line of a refusal.
 fn say<E: Sink>(err: &mut E, words: &[String], refusal: &Refusal) -> Result<(), SinkFailed>
-    ensures faults { SinkFaults result (E.sink err.old) (E.sink err.new) }
-    ensures contents { IfKnown (E.sink err.old) (E.sink err.new)
-        (Sends (message_of (map string_bytes words.now) refusal.now) result) }
+    ensures { SendsLine (message_of (map string_bytes words.now) refusal.now) result
+        (E.sink err.old) (E.sink err.new) }
 {
     match refusal {
         Refusal::InvalidArguments => say_what(err, texts::WORDS_REFUSED),
         Refusal::OutOfMemory => say_what(err, texts::OUT_OF_MEMORY),
         Refusal::CallFailed(failure) => say_failure(err, words, *failure),
-        Refusal::Found(finding) => say_finding(err, words, finding),
+        Refusal::Found(finding) => say_line(err, words, finding_line(finding)),
     }
 }
 

@@ -1,6 +1,8 @@
 use Rattle.treesync.proofs.report.say_can_add.Goals as goal
 
-pub returns-clause-contents : goal.returns-clause-contents
-returns-clause-contents g c =
-    rw (c.as_bytes.ensures.value, c.as_bytes-2.ensures.value, c.operand_text.ensures, c.as_bytes-3.ensures.value, c.as_bytes-4.ensures.value, c.as_bytes-5.ensures.value, c.format.ensures.text, c.as_bytes-6.ensures.value)
-    at c.send_line_at.ensures.contents
+pub returns : goal.returns
+returns g c = record {
+  faults = c.send_line_at.ensures.faults;
+  contents = rw (c.as_bytes.ensures.value, c.as_bytes-2.ensures.value, c.operand_text.ensures, c.as_bytes-3.ensures.value, c.as_bytes-4.ensures.value, c.as_bytes-5.ensures.value, c.format.ensures.text, c.as_bytes-6.ensures.value)
+      at c.send_line_at.ensures.contents;
+}
