@@ -46,15 +46,15 @@ module _ (u : Holding) (ms : List Change) (fits : Fits u ms) where
       cases false b false false e f = cc (e)
 
       down : command_at ms c.node ≡ None → bars_under c d ≡ true → (via : List Node) × (is_chain u ms c via ≡ true)
-      down none bar =
-          let parts = both (not (is_dir c.new)) (is_under d.node c.node && not (is_empty d.new)) bar in
+      down none holds =
+          let parts = both (not (is_dir c.new)) (is_under d.node c.node && not (is_empty d.new)) holds in
           let more = both (is_under d.node c.node) (not (is_empty d.new)) parts.1 in
           let way : WayDown u ms c.node = (way_down u ms fits c.node d here more.0 (not_true (is_empty d.new) more.1)).way in
           (way.first ∷ way.rest, down_chain u ms fits c none (not_true (is_dir c.new) parts.0) way)
 
       up : command_at ms c.node ≡ None → bars_under d c ≡ true → (via : List Node) × (is_chain u ms c via ≡ true)
-      up none bar =
-          let parts = both (not (is_dir d.new)) (is_under c.node d.node && not (is_empty c.new)) bar in
+      up none holds =
+          let parts = both (not (is_dir d.new)) (is_under c.node d.node && not (is_empty c.new)) holds in
           let more = both (is_under c.node d.node) (not (is_empty c.new)) parts.1 in
           let way : WayUp u ms c.node = way_up u ms fits (length c.node) d here (not_true (is_dir d.new) parts.0) c.node (omega arith) more.0 in
           (way.first ∷ way.rest, up_chain u ms fits c none (not_true (is_empty c.new) more.1) way)

@@ -293,8 +293,8 @@ module _ (u : Holding) (ms : List Change) (fits : Fits u ms) (c : Change) where
       go None at (inl e) = up (any_is (λ d. stands_over d c) ms e)
         where
           up : (d : Change) × (is_in ms d ≡ true) × (stands_over d c ≡ true) → (via : List Node) × IsFirstChain u ms c via
-          up (d, there, bar) =
-              let parts = both (not (is_dir d.new)) (is_under c.node d.node && not (is_empty c.new)) bar in
+          up (d, there, holds) =
+              let parts = both (not (is_dir d.new)) (is_under c.node d.node && not (is_empty c.new)) holds in
               let more = both (is_under c.node d.node) (not (is_empty c.new)) parts.1 in
               let way : WayUp u ms c.node = way_up u ms fits (length c.node) d (at_from_in ms fits.one d there) (not_true (is_dir d.new) parts.0) c.node (omega arith) more.0 in
               (way.first ∷ way.rest, record { chain = up_chain u ms fits c at (not_true (is_empty c.new) more.1) way; first = λ other h. inr (left (leads_up c.node (way.first ∷ way.rest)) _ way.leads) })

@@ -1,4 +1,4 @@
--- What a printed list of clashes tells follows from what a run owes.
+-- What a printed list of clashes means follows from what a run owes.
 use Rattle.std.proofs.Common.{◌≡◌, ◌≤◌, false, ℕ, List, [], ◌∷◌, Some, Ok, inl, inr, refl, sym, ap, subst, ◌∙◌, arith}
 use Rattle.sync_command.specs.declared.commands.Row.{Row}
 use Rattle.sync_port.specs.Ports.{FileContents, Names}
@@ -13,7 +13,7 @@ use Rattle.tool_words.specs.Jobs.{job_of}
 use Rattle.tool_words.specs.Words.{Operand, Text}
 use Rattle.tool_words.specs.declared.job.Job.TheVariants.{Conflicts}
 use Rattle.treesync.specs.Conflicts.{IsConflicts, clash_lines, lines_of}
-use Rattle.treesync.specs.Headline.{HoldLogs, HoldTogether, IsOnlyMerger, TellsClashes, Recorded, all_commands}
+use Rattle.treesync.specs.Headline.{HoldLogs, HoldTogether, IsOnlyMerger, PrintsClashes, Recorded, all_commands}
 use Rattle.treesync.specs.Jobs.{InputsCounted, Outside, Ran, held_tree, inputs_of}
 use Rattle.treesync.specs.Joining.{commands_of}
 use Rattle.treesync.specs.Outputs.{ClashLines, Output, status_in}
@@ -48,7 +48,7 @@ listed_of held files output (inr (reads, l, inr (joined, inr j, m))) =
       is = m.2;
     }
 
--- ---- what it tells
+-- ---- what it means
 
 none_lined : (nodes : List Row) (all : List Clash) → status_in (ClashLines (lines_of nodes all)) ≡ 0 → all ≡ []
 none_lined nodes [] e = refl
@@ -93,5 +93,5 @@ module _ (words : List Text) (before now : Outside) (status : ℕ) (ran : Ran wo
         so = λ apart. some ((listed_law p.joint (all_commands p.logs) p.stands).1 apart);
       }
 
-  pub says_clashes : TellsClashes words before now status
+  pub says_clashes : PrintsClashes words before now status
   says_clashes files m e known = (none_clash files m e known, some_clash files m e known)

@@ -183,7 +183,7 @@ module _ (folder file : Operand) (words : List Text) (before now : Outside) (sta
   pub recording_ends : job_of words ≡ Some (Record folder file) → RanRecording folder file words before now status → EndsRight (job_of words) before now status
   recording_ends e ran = record {
     refused = λ two. absurd (is_two ran.script ran.of_job ran.carries_out two);
-    no_job = λ none. absurd (cc (e, none));
+    invalid = λ none. absurd (cc (e, none));
     done = is_done ran.script ran.of_job ran.quiet ran.carries_out;
   }
 

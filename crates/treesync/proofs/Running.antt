@@ -10,7 +10,7 @@ use Rattle.tool_words.specs.declared.job.WordFault.{WordFault}
 use Rattle.tool_words.specs.declared.job.WordFault.TheVariants as word
 use Rattle.treesync.specs.Completeness.{CompletesJob, IsMet}
 use Rattle.treesync.specs.Ends.{Prints, Says, line_of}
-use Rattle.treesync.specs.Headline.{KeepsUnready, PrintsApplied, PrintsChanges, PrintsMerger, PrintsRules, PrintsSealed, PrintsSteered, PrintsTransition, ResumesApply, TellsClashes}
+use Rattle.treesync.specs.Headline.{KeepsUnready, PrintsApplied, PrintsChanges, PrintsClashes, PrintsMerger, PrintsRules, PrintsSealed, PrintsSteered, PrintsTransition, ResumesApply}
 use Rattle.treesync.specs.Jobs.{Inputs, Keeps, Outside, Ran, inputs_of}
 use Rattle.treesync.specs.Messages.{message_of}
 use Rattle.treesync.specs.Runs.{EndsRight, IsAnswered, Runs, RunsJob, words_refusal}
@@ -27,7 +27,7 @@ use Rattle.treesync.proofs.SealHeadline.{prints_sealed}
 use Rattle.treesync.proofs.SetHeadlines.{prints_catchup, prints_reasons, prints_rebase, prints_undo}
 use Rattle.treesync.proofs.SteerHeadline.{prints_rules}
 use Rattle.treesync.proofs.TransitionHeadline.{prints_transition}
-use Rattle.treesync.proofs.Words.{FindsOutput, Outcome, found_allowed, found_later, found_reads, found_trees, no_job, no_job_means, no_memory, none_failed, refused_means, seen_output, trees_later}
+use Rattle.treesync.proofs.Words.{FindsOutput, Outcome, found_allowed, found_later, found_reads, found_trees, invalid, invalid_means, no_memory, none_failed, refused_means, seen_output, trees_later}
 
 -- ---- jobs that find their answers
 
@@ -80,7 +80,7 @@ module _ (words : List Text) (before now : Outside) (status : ℕ) where
   pub runs_transition : Runs words before now status → PrintsTransition words before now status
   runs_transition runs number prefs files m e = prints_transition words before now status (answered (Transition number prefs files) e tt runs) number prefs files m e
 
-  pub runs_clashes : Runs words before now status → TellsClashes words before now status
+  pub runs_clashes : Runs words before now status → PrintsClashes words before now status
   runs_clashes runs files m e = says_clashes words before now status (answered (Conflicts files) e tt runs) files m e
 
   pub runs_rules : Runs words before now status → PrintsRules words before now status
@@ -162,7 +162,7 @@ module _ (words : List Text) (before now : Outside) (status : ℕ) where
     pub found_ends : EndsRight (job_of words) before now status
     found_ends = record {
       refused = refused_means (job_of words) (inputs_of before) (inputs_of now) found status before.out now.out finds prints;
-      no_job = no_job_means (job_of words) (inputs_of before) (inputs_of now) found status before.out now.out finds prints;
+      invalid = invalid_means (job_of words) (inputs_of before) (inputs_of now) found status before.out now.out finds prints;
       done = none_failed (job_of words) (inputs_of before) (inputs_of now) found status before.out now.out finds prints;
     }
 
@@ -173,7 +173,7 @@ module _ (words : List Text) (before now : Outside) (status : ℕ) where
 -- ---- no job
 
 pub no_words : (words : Option Job) (state : Inputs) (fault : WordFault) → (fault ≡ word.Refused → words ≡ None) → FindsOutput words state state (Err (words_refusal fault))
-no_words words state word.Refused none = no_job words state (none refl)
+no_words words state word.Refused none = invalid words state (none refl)
 no_words words state word.Memory none = no_memory words state
 
 module _ (words : List Text) (before now : Outside) (status : ℕ) (fault : WordFault) (none : fault ≡ word.Refused → job_of words ≡ None) (same : inputs_of now ≡ inputs_of before)

@@ -270,6 +270,6 @@ module _ (prefs : Option Operand) (folders files : List Operand) (words : List T
   pub round_ends : job_of words ≡ Some (Sync prefs folders files) → RanRound prefs folders files words before now status → EndsRight (job_of words) before now status
   round_ends e ran = record {
     refused = λ two. absurd (not_two ran.answer (answer_of_job ran.finds.merged ran.answer ran.finds.of_job ran.finds.carries) ran.prints two);
-    no_job = λ none. absurd (cc (e, none));
+    invalid = λ none. absurd (cc (e, none));
     done = λ low. let d = done_answer ran.answer ran.prints low in (files_quiet ran.finds.merged ran.answer d.0.0 d.0.1 ran.finds.quiet ran.finds.carries, d.1);
   }

@@ -47,8 +47,8 @@ pub found_job : (job : Job) (words : Option Job) (before now : Inputs) (found : 
     FindsJob StandsForOutput job before now found → FindsOutput words before now found
 found_job job words before now found e a = subst (λ w. FindsOutput w before now found) (sym e) a
 
-pub no_job : (words : Option Job) (state : Inputs) → words ≡ None → FindsOutput words state state (Err InvalidArguments)
-no_job words state e = subst (λ w. FindsOutput w state state (Err InvalidArguments)) (sym e) (inl refl, refl)
+pub invalid : (words : Option Job) (state : Inputs) → words ≡ None → FindsOutput words state state (Err InvalidArguments)
+invalid words state e = subst (λ w. FindsOutput w state state (Err InvalidArguments)) (sym e) (inl refl, refl)
 
 -- the trees of a job stay where it is refused, and those of a job that has none
 still_refused : (job : Job) (files : Option FileContents) (r : Refusal) (trees : List TreeState) → LeavesTrees {X = Answer} (shows_text StandsForOutput) job files (Err r) trees trees
@@ -247,9 +247,9 @@ none_status : (found : Outcome) (status : ℕ) (a b : SinkState) → (found ≡ 
 none_status found status a b (inl e) p = inl ((subst (λ f. Prints (seen_output f) status a b) e p).0)
 none_status found status a b (inr e) p = inr ((subst (λ f. Prints (seen_output f) status a b) e p).0)
 
-pub no_job_means : (words : Option Job) (before now : Inputs) (found : Outcome) (status : ℕ) (a b : SinkState) →
+pub invalid_means : (words : Option Job) (before now : Inputs) (found : Outcome) (status : ℕ) (a b : SinkState) →
     FindsOutput words before now found → Prints (seen_output found) status a b → words ≡ None → (status ≡ 2) ⊎ (status ≡ 16)
-no_job_means words before now found status a b f p e = none_status found status a b (subst (λ w. FindsOutput w before now found) e f).0 p
+invalid_means words before now found status a b f p e = none_status found status a b (subst (λ w. FindsOutput w before now found) e f).0 p
 
 -- with the status of a whole output one was found and printed, and no call failed
 done_found : (found : Outcome) (status : ℕ) (a b : SinkState) → Prints (seen_output found) status a b → status ≤ 1 → ((answer : Answer) × (found ≡ Ok answer)) × (b.faults ≡ a.faults)

@@ -157,8 +157,8 @@ IsOnlyMerger logs =
 
 -- With status 0 a `conflicts` found that no two net commands clash, and then all of them are the only merger; with
 -- status 1 it found that some do.
-abbrev pub TellsClashes : List Text → Outside → Outside → ℕ → Type 0
-TellsClashes words before now status =
+abbrev pub PrintsClashes : List Text → Outside → Outside → ℕ → Type 0
+PrintsClashes words before now status =
     (files : List Operand) (m : FileContents) → job_of words ≡ Some (Conflicts files) → before.files.contents ≡ Some m →
     (status ≡ 0 → HoldTogether m.held files (λ logs. HasNoClash (drawn_commands logs) × IsOnlyMerger logs)) ×
     (status ≡ 1 → HoldTogether m.held files (λ logs. HasNoClash (drawn_commands logs) → ⊥))

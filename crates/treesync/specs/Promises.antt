@@ -3,7 +3,7 @@ use Rattle.std.specs.Prelude.{ℕ, List}
 use Rattle.tool_words.specs.Jobs.{job_of}
 use Rattle.tool_words.specs.Words.{Text}
 use Rattle.treesync.specs.Completeness.{CompletesJob}
-use Rattle.treesync.specs.Headline.{CarriesOutRecord, KeepsUnready, PrintsApplied, PrintsChanges, PrintsMerger, PrintsRecorded, PrintsRules, PrintsSealed, PrintsSteered, PrintsTransition, ResumesApply, TellsClashes}
+use Rattle.treesync.specs.Headline.{CarriesOutRecord, KeepsUnready, PrintsApplied, PrintsChanges, PrintsClashes, PrintsMerger, PrintsRecorded, PrintsRules, PrintsSealed, PrintsSteered, PrintsTransition, ResumesApply}
 use Rattle.treesync.specs.Jobs.{Keeps, Outside}
 use Rattle.treesync.specs.RoundHeadline.{AnswersRound, JoinsReplicas, KeepsUnreadyRound, ResumesRound}
 use Rattle.treesync.specs.Runs.{EndsRight, Runs}
@@ -15,16 +15,16 @@ pub record Promises (words : List Text) (before now : Outside) (status : ℕ) : 
   pub ran : Runs words before now status
   -- no count falls, each file of the job is opened once at most and read as its limit says, and what is held stays
   pub keeps : Keeps words before now
-  -- status 2 comes only where the words are no job, which has status 2 or 16; with status 0 or 1 no call failed
+  -- status 2 comes only with invalid arguments, which have status 2 or 16; with status 0 or 1 no call failed
   pub ends : EndsRight (job_of words) before now status
   -- where the files hold what the job asks for, it prints, unless memory ran out or a fault was counted
   pub completes : CompletesJob words before now status
   -- what `merge` prints is a merger, and each merger is what it prints under the rules that steer to it
   pub merges : PrintsMerger words before now status
   pub steers : PrintsSteered words before now status
-  -- `steer` prints the rules of a merger, and `conflicts` tells whether there is more than one
+  -- `steer` prints the rules of a merger, and `conflicts` ends with whether there is more than one
   pub rules : PrintsRules words before now status
-  pub clashes : TellsClashes words before now status
+  pub clashes : PrintsClashes words before now status
   -- what `transition` prints leads from a replica's tree to that of the merger
   pub leads : PrintsTransition words before now status
   -- each command that the merger leaves out is explained

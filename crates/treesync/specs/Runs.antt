@@ -85,8 +85,8 @@ abbrev pub words_refusal : WordFault → Refusal
 words_refusal word.Refused = InvalidArguments
 words_refusal word.Memory = OutOfMemory
 
--- What the status says of any words: 2 that they are no job, which has 2 or 16, and 0 or 1 that no call failed.
+-- What the status says of any words: 2 that the arguments are invalid, which have 2 or 16, and 0 or 1 that no call failed.
 pub record EndsRight (job : Option Job) (before now : Outside) (status : ℕ) : Type 0 where
   pub refused : status ≡ 2 → job ≡ None
-  pub no_job : job ≡ None → (status ≡ 2) ⊎ (status ≡ 16)
+  pub invalid : job ≡ None → (status ≡ 2) ⊎ (status ≡ 16)
   pub done : status ≤ 1 → NoneFailed before now
