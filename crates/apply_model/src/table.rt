@@ -36,7 +36,7 @@ fn add_child(nodes: &mut HashMap<Path, Entry>, above: &Path) -> Result<(), NoMem
         hash.get path_eq nodes.new p ≡ (if same_path p above.now
         then recounted true (hash.get path_eq nodes.old p)
         else hash.get path_eq nodes.old p)) }
-    ensures room { spare nodes.new ≡ spare nodes.old }
+    ensures space { spare nodes.new ≡ spare nodes.old }
     ensures err { OnErr result ((p : Node) →
         hash.get path_eq nodes.new p ≡ hash.get path_eq nodes.old p) }
 {

@@ -111,7 +111,7 @@ impl Table {
         ensures unknown { OnFalse result ((entry_at self.old path.now ≡ None) ×
             (self.new ≡ self.old)) }
         ensures touched { touches_in self.new ≡ touches_in self.old }
-        ensures room { (spare self.new.touched ≡ spare self.old.touched) ×
+        ensures space { (spare self.new.touched ≡ spare self.old.touched) ×
             (spare self.new.above ≡ spare self.old.above) }
     {
         if let Some(place) = self.touched.get_index_of(path) {
@@ -128,7 +128,7 @@ impl Table {
         }
     }
 
-    /// Makes room for one more touched node, and for so many above.
+    /// Makes space for one more touched node, and for so many above.
     pub(crate) fn reserve(&mut self, above: usize) -> Result<(), NoMemory>
         ensures touched { touches_in self.new ≡ touches_in self.old }
         ensures entries { (p : Node) → entry_at self.new p ≡ entry_at self.old p }
@@ -141,16 +141,16 @@ impl Table {
     }
 
     /// A node comes into the table: its parent counts it where it holds something. The nodes above it that are not in
-    /// the table come in too; each of them holds something, since something is under it. There is room for all of them.
+    /// the table come in too; each of them holds something, since something is under it. There is space for all of them.
     /// Where memory runs out the table knows what it knew. The path is shrunk on the way.
     fn raise(&mut self, alloc: Global, way: &mut Path, is_full: bool) -> Result<(), NoMemory>
         requires unknown { entry_at self.old way.old ≡ None }
         requires closed { IsClosed (entry_at self.old) }
-        requires room { length way.old ≤ spare self.old.above }
+        requires space { length way.old ≤ spare self.old.above }
         requires few { (q : Node) → children_in (entry_at self.old q) + 1 < 2 ^ 64 }
         ensures ok { OnOk result (Raises (entry_at self.old) (entry_at self.new) way.old is_full) }
         ensures touched { touches_in self.new ≡ touches_in self.old }
-        ensures room { OnOk result ((spare self.new.touched ≡ spare self.old.touched) ×
+        ensures space { OnOk result ((spare self.new.touched ≡ spare self.old.touched) ×
             (spare self.old.above ≤ spare self.new.above + length way.old)) }
         ensures err { OnErr result ((p : Node) → entry_at self.new p ≡ entry_at self.old p) }
     {
@@ -177,7 +177,7 @@ impl Table {
             0 < children_in (entry_at self.old q) }
         ensures ok { Recounts (entry_at self.old) (entry_at self.new) way.old was_full is_full }
         ensures touched { touches_in self.new ≡ touches_in self.old }
-        ensures room { (spare self.new.touched ≡ spare self.old.touched) ×
+        ensures space { (spare self.new.touched ≡ spare self.old.touched) ×
             (spare self.new.above ≡ spare self.old.above) }
     {
         if was_full == is_full {
@@ -192,7 +192,7 @@ impl Table {
     /// The first touch of a node that is not touched, with its count of children.
     fn put(&mut self, command: Command, children: usize)
         requires untouched { place_of (touches_in self.old) command.node ≡ None }
-        requires room { 0 < spare self.old.touched }
+        requires space { 0 < spare self.old.touched }
         ensures touched { touches_in self.new ≡ touches_in self.old
             ++ first_touch_of command ∷ [] }
         ensures entries { (p : Node) → entry_at self.new p ≡ cond (is_eq (path_cmp command.node p))

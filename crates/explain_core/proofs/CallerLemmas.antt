@@ -3,7 +3,7 @@
 -- a chain bars its command, and so does a reason that is shown
 pub use Rattle.explain_core.proofs.ChainLaws.{bars_law}
 pub use Rattle.explain_core.proofs.Explaining.{shown_law}
--- chains for what a merger leaves out, by the law that tells what can be taken beside a set
+-- chains for what a merger leaves out, by the law that says what can be taken beside a set
 pub use Rattle.explain_core.proofs.Barred.{TellConflicts, chain_law, first_law}
 -- what a listed reason says, by the same
 pub use Rattle.explain_core.proofs.Explaining.{explain_law, first_found}

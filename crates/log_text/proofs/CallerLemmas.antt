@@ -12,4 +12,4 @@ pub use Rattle.log_text.proofs.PieceLemmas.{complete_grows, log_complete}
 pub use Rattle.log_text.proofs.PieceLemmas.{taken_all, taken_of_log, version_stays, fault_of_whole, IsWholeLog, ended_log}
 -- texts of a form of one's own: fields without a mark, lines that are read as what was printed, and what is read
 pub use Rattle.log_text.proofs.Fields.{IsClear, path_field, field_clear, clear_both, decimal_digits, digits_field, parts_clear, parts_only}
-pub use Rattle.log_text.proofs.FrameLaws.{IsRead, AreRead, IsSound, AreFine, joined, framed_back, framed_is, few_fine, each_fine, room_before}
+pub use Rattle.log_text.proofs.FrameLaws.{IsRead, AreRead, IsSound, AreFine, joined, framed_back, framed_is, few_fine, each_fine, space_before}

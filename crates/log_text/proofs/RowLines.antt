@@ -319,8 +319,8 @@ pub row_errs : (version : Version) (before : List Row) (p v : List ℕ) (n : Nod
     → row_of version before (p ∷ v ∷ []) ≡ Err f
 unfolding row_of
 row_errs version before p v n w j k f few e g h =
-    let room : nat_le MAX_ITEMS (length before) ≡ false = grind (arith, nat_tests) in
-    rw room ((λ i. row_from before (from_kind j (path_of p) n e i) (from_kind k (value_of version v) w g i)) ∙ ap (λ o. row_unless o n w) (sym h))
+    let space : nat_le MAX_ITEMS (length before) ≡ false = grind (arith, nat_tests) in
+    rw space ((λ i. row_from before (from_kind j (path_of p) n e i) (from_kind k (value_of version v) w g i)) ∙ ap (λ o. row_unless o n w) (sym h))
 
 from_row : (before : List Row) (p : Result Node PathFault) (v : Result Value ValueFault) (row : Row) → row_from before p v ≡ Ok row → IsNextRow before row
 from_row before (Err f) v row e = cc

@@ -16,11 +16,11 @@ use Rattle.log_text.specs.declared.faults.TextKind.TheVariants as kind
 use Rattle.log_text.specs.declared.frame.TheConstants.{MAX_ITEMS}
 use Rattle.log_text.specs.Frame.{end_number, framed_of}
 use Rattle.log_text.proofs.CallerLemmas.{IsClear, path_field, field_clear, clear_both, decimal_digits, digits_field, parts_clear, parts_only}
-use Rattle.log_text.proofs.CallerLemmas.{IsRead, AreRead, IsSound, AreFine, joined, framed_back, framed_is, few_fine, each_fine, room_before}
+use Rattle.log_text.proofs.CallerLemmas.{IsRead, AreRead, IsSound, AreFine, joined, framed_back, framed_is, few_fine, each_fine, space_before}
 use Rattle.pref_list.specs.declared.rules.Rule.{Rule}
 use Rattle.pref_list.specs.declared.rules.Rule.TheVariants.{At, Under, All}
 use Rattle.pref_list.specs.declared.rules.TheConstants.{MAX_WIDE}
-use Rattle.pref_list.specs.Prefs.{prefs_first, rule_text, prefs_text, is_wide, wide_rules, IsLogNumber, IsRule, IsPrefs, log_number, rule_at, rule_of_all, with_room, with_wide_room, of_log, of_place, rule_of, prefs_head, judge_rule, without_head, prefs_of}
+use Rattle.pref_list.specs.Prefs.{prefs_first, rule_text, prefs_text, is_wide, wide_rules, IsLogNumber, IsRule, IsPrefs, log_number, rule_at, rule_of_all, with_space, with_wide_space, of_log, of_place, rule_of, prefs_head, judge_rule, without_head, prefs_of}
 use Rattle.pref_list.proofs.Spelling.{number_is, number_back}
 
 -- ---- one line is read
@@ -41,43 +41,43 @@ log_cut word log clear h = parts_clear 32 word (decimal log) clear ∙ ap (λ ps
 place_clear : (log : ℕ) (p : Node) → IsLogNumber log → IsClear 10 (decimal log ++ 32 ∷ path_text p)
 place_clear log p h = clear_both 10 (decimal log) (32 ∷ path_text p) (number_clear 10 log (lit≤ tt) h) (refl, field_clear 10 (path_text p) (lit≤ tt) (path_field p))
 
--- there is room for the rule after those before it
-record HasRoom (before : List Rule) (rule : Rule) : Type 0 where
+-- there is space for the rule after those before it
+record HasSpace (before : List Rule) (rule : Rule) : Type 0 where
   all : length before < MAX_ITEMS
   wide : is_wide rule ≡ true → wide_rules before < MAX_WIDE
 
 within : (most n : ℕ) → n < most → nat_le most n ≡ false
 within most n h = grind (arith, nat_tests)
 
-is_read : (before : List Rule) (rule : Rule) → HasRoom before rule → IsRule rule → IsRead (judge_rule tt) rule_text before rule
+is_read : (before : List Rule) (rule : Rule) → HasSpace before rule → IsRule rule → IsRead (judge_rule tt) rule_text before rule
 unfolding rule_of
-is_read before (At log p) room (number, path) =
+is_read before (At log p) space (number, path) =
     let cut = place_cut (codes "at") log p (refl, (refl, tt)) number in
     record {
       line = (refl, (refl, (refl, place_clear log p number)));
       other = ap end_number cut;
-      judged = ap (rule_of before) cut ∙ rw (within MAX_ITEMS (length before) room.all, number_back log number, text_back p path) refl;
+      judged = ap (rule_of before) cut ∙ rw (within MAX_ITEMS (length before) space.all, number_back log number, text_back p path) refl;
     }
-is_read before (Under log p) room (number, path) =
+is_read before (Under log p) space (number, path) =
     let cut = place_cut (codes "under") log p (refl, (refl, (refl, (refl, (refl, tt))))) number in
     record {
       line = (refl, (refl, (refl, (refl, (refl, (refl, place_clear log p number))))));
       other = ap end_number cut;
-      judged = ap (rule_of before) cut ∙ rw (within MAX_ITEMS (length before) room.all, within MAX_WIDE (wide_rules before) (room.wide refl), number_back log number, text_back p path) refl;
+      judged = ap (rule_of before) cut ∙ rw (within MAX_ITEMS (length before) space.all, within MAX_WIDE (wide_rules before) (space.wide refl), number_back log number, text_back p path) refl;
     }
-is_read before (All log) room number =
+is_read before (All log) space number =
     let cut = log_cut (codes "all") log (refl, (refl, (refl, tt))) number in
     record {
       line = (refl, (refl, (refl, (refl, number_clear 10 log (lit≤ tt) number))));
       other = ap end_number cut;
-      judged = ap (rule_of before) cut ∙ rw (within MAX_ITEMS (length before) room.all, within MAX_WIDE (wide_rules before) (room.wide refl), number_back log number) refl;
+      judged = ap (rule_of before) cut ∙ rw (within MAX_ITEMS (length before) space.all, within MAX_WIDE (wide_rules before) (space.wide refl), number_back log number) refl;
     }
 
 wide-append : (a b : List Rule) → wide_rules (a ++ b) ≡ wide_rules a + wide_rules b
 wide-append a b = sum_by-append _ a b
 
-wide_room : (before rules : List Rule) (rule : Rule) → wide_rules (before ++ rule ∷ rules) ≤ MAX_WIDE → is_wide rule ≡ true → wide_rules before < MAX_WIDE
-wide_room before rules rule h wide =
+wide_space : (before rules : List Rule) (rule : Rule) → wide_rules (before ++ rule ∷ rules) ≤ MAX_WIDE → is_wide rule ≡ true → wide_rules before < MAX_WIDE
+wide_space before rules rule h wide =
     let all = wide-append before (rule ∷ rules) in
     let rest = wide-append (rule ∷ []) rules in
     let one : wide_rules (rule ∷ []) ≡ 1 = rw wide refl in
@@ -86,7 +86,7 @@ wide_room before rules rule h wide =
 are_read : (before rules : List Rule) → length (before ++ rules) ≤ MAX_ITEMS → wide_rules (before ++ rules) ≤ MAX_WIDE → AllByRecursion IsRule rules → AreRead (judge_rule tt) rule_text before rules
 are_read before [] few narrow h = tt
 are_read before (rule ∷ rules) few narrow (one, h) = (
-  is_read before rule (record { all = room_before before rules rule few; wide = wide_room before rules rule narrow }) one,
+  is_read before rule (record { all = space_before before rules rule few; wide = wide_space before rules rule narrow }) one,
   are_read (before ++ rule ∷ []) rules (subst (λ l. length l ≤ MAX_ITEMS) (sym (append_assoc before (rule ∷ []) rules)) few) (subst (λ l. wide_rules l ≤ MAX_WIDE) (sym (append_assoc before (rule ∷ []) rules)) narrow) h,
 )
 
@@ -103,7 +103,7 @@ prefs_back rules h =
 -- ---- what is read has its text
 
 record IsFine (head : Unit {0}) (before : List Rule) (rule : Rule) : Type 0 where
-  room : HasRoom before rule
+  space : HasSpace before rule
   valid : IsRule rule
 
 same_rule : (a b : Rule) → ◌≡◌ {A = Result Rule TextKind} (Ok a) (Ok b) → a ≡ b
@@ -112,24 +112,24 @@ same_rule a b e = cc
 not_ok : (f : TextKind) (rule : Rule) → ◌≡◌ {A = Result Rule TextKind} (Err f) (Ok rule) → ⊥
 not_ok f rule e = cc
 
-from_room : (before : List Rule) (read : Result Rule TextKind) (rule : Rule) → with_room before read ≡ Ok rule → (length before < MAX_ITEMS) × (read ≡ Ok rule)
-from_room before read rule e =
+from_space : (before : List Rule) (read : Result Rule TextKind) (rule : Rule) → with_space before read ≡ Ok rule → (length before < MAX_ITEMS) × (read ≡ Ok rule)
+from_space before read rule e =
     ⊎_elim
     (λ (t : nat_le MAX_ITEMS (length before) ≡ true). absurd (not_ok kind.TooMany rule (rw t at e)))
     (λ (f : nat_le MAX_ITEMS (length before) ≡ false). (grind (arith, nat_tests), rw f at e))
     (cases_Bool (nat_le MAX_ITEMS (length before)))
 
-record HasWideRoom (before : List Rule) (read : Result Rule TextKind) (rule : Rule) : Type 0 where
+record HasWideSpace (before : List Rule) (read : Result Rule TextKind) (rule : Rule) : Type 0 where
   all : length before < MAX_ITEMS
   wide : wide_rules before < MAX_WIDE
   is : read ≡ Ok rule
 
-from_wide_room : (before : List Rule) (read : Result Rule TextKind) (rule : Rule) → with_wide_room before read ≡ Ok rule → HasWideRoom before read rule
-from_wide_room before read rule e =
-    let room = from_room before _ rule e in
+from_wide_space : (before : List Rule) (read : Result Rule TextKind) (rule : Rule) → with_wide_space before read ≡ Ok rule → HasWideSpace before read rule
+from_wide_space before read rule e =
+    let space = from_space before _ rule e in
     ⊎_elim
-    (λ (t : nat_le MAX_WIDE (wide_rules before) ≡ true). absurd (not_ok kind.TooWide rule (rw t at room.1)))
-    (λ (f : nat_le MAX_WIDE (wide_rules before) ≡ false). record { all = room.0; wide = grind (arith, nat_tests); is = rw f at room.1 })
+    (λ (t : nat_le MAX_WIDE (wide_rules before) ≡ true). absurd (not_ok kind.TooWide rule (rw t at space.1)))
+    (λ (f : nat_le MAX_WIDE (wide_rules before) ≡ false). record { all = space.0; wide = grind (arith, nat_tests); is = rw f at space.1 })
     (cases_Bool (nat_le MAX_WIDE (wide_rules before)))
 
 -- a rule with a path is that of the fields
@@ -171,11 +171,11 @@ log_line : (before : List Rule) (word log : List ℕ) (rule : Rule) → of_log b
 log_line before word log rule e =
     ⊎_elim
     (λ (t : bytes_eq word (codes "all") ≡ true).
-    let room = from_wide_room before (rule_of_all (log_number log)) rule (rw t at e) in
-    let is = from_whole log (log_number log) rule refl room.is in
+    let space = from_wide_space before (rule_of_all (log_number log)) rule (rw t at e) in
+    let is = from_whole log (log_number log) rule refl space.is in
     let w = word_is word (codes "all") t in (
       (λ i. w i ++ 32 ∷ is.spelled i) ∙ ap rule_text is.is,
-      subst (IsFine tt before) is.is (record { room = record { all = room.all; wide = λ h. room.wide }; valid = is.number }),
+      subst (IsFine tt before) is.is (record { space = record { all = space.all; wide = λ h. space.wide }; valid = is.number }),
     ))
     (λ (f : bytes_eq word (codes "all") ≡ false). absurd (not_ok kind.Fields rule (rw f at e)))
     (cases_Bool (bytes_eq word (codes "all")))
@@ -184,11 +184,11 @@ under_line : (before : List Rule) (word log path : List ℕ) (rule : Rule) → b
 under_line before word log path rule not e =
     ⊎_elim
     (λ (t : bytes_eq word (codes "under") ≡ true).
-    let room = from_wide_room before (rule_at Under (log_number log) (path_of path)) rule (rw (not, t) at e) in
-    let is = from_place Under log path (log_number log) (path_of path) rule refl refl room.is in
+    let space = from_wide_space before (rule_at Under (log_number log) (path_of path)) rule (rw (not, t) at e) in
+    let is = from_place Under log path (log_number log) (path_of path) rule refl refl space.is in
     let w = word_is word (codes "under") t in (
       (λ i. w i ++ 32 ∷ (is.spelled i ++ 32 ∷ is.text i)) ∙ ap rule_text is.is,
-      subst (IsFine tt before) is.is (record { room = record { all = room.all; wide = λ h. room.wide }; valid = (is.number, is.valid) }),
+      subst (IsFine tt before) is.is (record { space = record { all = space.all; wide = λ h. space.wide }; valid = (is.number, is.valid) }),
     ))
     (λ (f : bytes_eq word (codes "under") ≡ false). absurd (not_ok kind.Fields rule (rw (not, f) at e)))
     (cases_Bool (bytes_eq word (codes "under")))
@@ -197,11 +197,11 @@ place_line : (before : List Rule) (word log path : List ℕ) (rule : Rule) → o
 place_line before word log path rule e =
     ⊎_elim
     (λ (t : bytes_eq word (codes "at") ≡ true).
-    let room = from_room before (rule_at At (log_number log) (path_of path)) rule (rw t at e) in
-    let is = from_place At log path (log_number log) (path_of path) rule refl refl room.1 in
+    let space = from_space before (rule_at At (log_number log) (path_of path)) rule (rw t at e) in
+    let is = from_place At log path (log_number log) (path_of path) rule refl refl space.1 in
     let w = word_is word (codes "at") t in (
       (λ i. w i ++ 32 ∷ (is.spelled i ++ 32 ∷ is.text i)) ∙ ap rule_text is.is,
-      subst (IsFine tt before) is.is (record { room = record { all = room.0; wide = λ h. cc }; valid = (is.number, is.valid) }),
+      subst (IsFine tt before) is.is (record { space = record { all = space.0; wide = λ h. cc }; valid = (is.number, is.valid) }),
     ))
     (λ (f : bytes_eq word (codes "at") ≡ false). under_line before word log path rule f e)
     (cases_Bool (bytes_eq word (codes "at")))
@@ -226,10 +226,10 @@ narrow_fine before (rule ∷ rules) narrow (one, h) =
   where
     one_more : (b : Bool) → is_wide rule ≡ b → wide_rules (before ++ rule ∷ []) ≤ MAX_WIDE
     one_more true e =
-        let room = one.room.wide e in
+        let space = one.space.wide e in
         let count : wide_rules (rule ∷ []) ≡ 1 = rw e refl in
         let all = wide-append before (rule ∷ []) in
-        omega (arith, room, count, all)
+        omega (arith, space, count, all)
     one_more false e =
         let count : wide_rules (rule ∷ []) ≡ 0 = rw e refl in
         let all = wide-append before (rule ∷ []) in
@@ -259,7 +259,7 @@ prefs_is text rules e =
     let is = framed_is judge_rule prefs_head (λ head. prefs_first) rule_text IsFine head_is sound text tt rules (with_its_head (framed_of prefs_head judge_rule (parts 10 text)) rules e) in (
       is.0,
       record {
-        few = few_fine (IsFine tt) (λ before rule h. h.room.all) [] rules (lit≤ tt) is.1;
+        few = few_fine (IsFine tt) (λ before rule h. h.space.all) [] rules (lit≤ tt) is.1;
         narrow = narrow_fine [] rules (lit≤ tt) is.1;
         each = each_fine (IsFine tt) IsRule (λ before rule h. h.valid) [] rules is.1;
       },

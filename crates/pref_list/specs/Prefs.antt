@@ -89,21 +89,21 @@ abbrev pub rule_of_all : Option ℕ → Result Rule TextKind
 rule_of_all None = Err kind.Number
 rule_of_all (Some log) = Ok (All log)
 
--- what a line is read as where there is room for a rule, and for a wide one
-abbrev pub with_room : List Rule → Result Rule TextKind → Result Rule TextKind
-with_room before read = if nat_le MAX_ITEMS (length before) then Err kind.TooMany else read
+-- what a line is read as where there is space for a rule, and for a wide one
+abbrev pub with_space : List Rule → Result Rule TextKind → Result Rule TextKind
+with_space before read = if nat_le MAX_ITEMS (length before) then Err kind.TooMany else read
 
-abbrev pub with_wide_room : List Rule → Result Rule TextKind → Result Rule TextKind
-with_wide_room before read = with_room before (if nat_le MAX_WIDE (wide_rules before) then Err kind.TooWide else read)
+abbrev pub with_wide_space : List Rule → Result Rule TextKind → Result Rule TextKind
+with_wide_space before read = with_space before (if nat_le MAX_WIDE (wide_rules before) then Err kind.TooWide else read)
 
 -- what a line with a word is read as, where that is a word of the form
 abbrev pub of_log : List Rule → List ℕ → Option ℕ → Result Rule TextKind
-of_log before word log = if bytes_eq word (codes "all") then with_wide_room before (rule_of_all log) else Err kind.Fields
+of_log before word log = if bytes_eq word (codes "all") then with_wide_space before (rule_of_all log) else Err kind.Fields
 
 abbrev pub of_place : List Rule → List ℕ → Option ℕ → Result Node PathFault → Result Rule TextKind
 of_place before word log path =
-    if bytes_eq word (codes "at") then with_room before (rule_at At log path)
-    else (if bytes_eq word (codes "under") then with_wide_room before (rule_at Under log path)
+    if bytes_eq word (codes "at") then with_space before (rule_at At log path)
+    else (if bytes_eq word (codes "under") then with_wide_space before (rule_at Under log path)
     else Err kind.Fields)
 
 -- the rule of a line's fields after the rules before it, or the first kind that applies

@@ -264,9 +264,9 @@ module _ (W : List Claim) (ordered : AreOrdered W) (k : ℕ) (c : Claim) (at : s
   pub down_left : is_down d ≡ true → 0 < slice_index n.downs.items c.log
   down_left e = let a = downs_now in let b : downs_in (d ∷ []) ≡ 1 = (downs_one d e).0 in omega arith
 
-  -- there is room for one more place
-  pub room_left : is_down d ≡ false → slice_index n.others.items c.log < length W
-  room_left e =
+  -- there is space for one more place
+  pub space_left : is_down d ≡ false → slice_index n.others.items c.log < length W
+  space_left e =
       let a = others_now in
       let b : downs_in (changes_of c.log W) + others_in (changes_of c.log W) ≡ length (changes_of c.log W) = both_counts (changes_of c.log W) in
       let f : others_in (changes_of c.log W) ≡ others_in (changes_of c.log (take k W)) + others_in (d ∷ changes_of c.log (drop (k + 1) W)) = ap others_in whole ∙ count-append is_other (changes_of c.log (take k W)) (d ∷ changes_of c.log (drop (k + 1) W)) in
@@ -407,8 +407,8 @@ module _ (W : List Claim) (ordered : AreOrdered W) (k : ℕ) (c : Claim) (low : 
   pub add_down : b ≡ true → 0 < slice_index n.downs.items c.log
   add_down e = down_left W ordered k c (slice_item W k c low is) found.0 found.1 n h (found.2 ∙ e)
 
-  pub add_room : b ≡ false → slice_index n.others.items c.log < length W
-  add_room e = room_left W ordered k c (slice_item W k c low is) found.0 found.1 n h (found.2 ∙ e)
+  pub add_space : b ≡ false → slice_index n.others.items c.log < length W
+  add_space e = space_left W ordered k c (slice_item W k c low is) found.0 found.1 n h (found.2 ∙ e)
 
   pub add_more : (s : Group) → IsGroup W s → s.start ≤ k → k < s.end → (now : Numbering) (place : ℕ) (repeated : Bool) →
       (b ≡ true → (place + 1 ≡ slice_index n.downs.items c.log) × (now.downs.items ≡ slice_set n.downs.items c.log place) × (now.others.items ≡ n.others.items)) →

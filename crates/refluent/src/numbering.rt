@@ -75,7 +75,7 @@ fn is_repeated(claim: &Claim, earlier: &[Claim]) -> bool
 /// Adds one to the count of a log.
 fn count_one(counts: &mut Vec<usize>, log: usize)
     requires log { log < length counts.old.items }
-    requires room { slice_index counts.old.items log + 1 < 2 ^ 64 }
+    requires space { slice_index counts.old.items log + 1 < 2 ^ 64 }
     ensures { counts.new.items ≡ slice_set counts.old.items log
         (slice_index counts.old.items log + 1) }
 {
@@ -106,7 +106,7 @@ fn next_place(downs: &mut Vec<usize>, others: &mut Vec<usize>, log: usize, is_do
     requires downs { log < length downs.old.items }
     requires others { log < length others.old.items }
     requires some_down { IsTrue is_down → 0 < slice_index downs.old.items log }
-    requires room { is_down ≡ false → slice_index others.old.items log + 1 < 2 ^ 64 }
+    requires space { is_down ≡ false → slice_index others.old.items log + 1 < 2 ^ 64 }
     ensures down { IsTrue is_down →
         (result + 1 ≡ slice_index downs.old.items log)
         × (downs.new.items ≡ slice_set downs.old.items log result)

@@ -84,7 +84,7 @@ fn command_of(claim: Claim) -> Option<Command>
     }
 }
 
-/// Room for the commands of each log.
+/// Space for the commands of each log.
 fn empty_lists(alloc: Global, count: usize) -> Result<Vec<Vec<Command>>, NoMemory>
     ensures many { IfOk result (λ lists. length lists.items ≡ count) }
     ensures none { IfOk result (λ lists. (l : ℕ) (cs : Vec Change Global) →

@@ -227,8 +227,8 @@ fn first_blocked(
 /// directory above it. A call of the tree that is refused comes before both. Of the tree only the set's nodes are looked
 /// at, their parents, and the children of those that must be emptied.
 ///
-/// There is no condition. The clause that says so tells callers in other crates that the tree in the box is the one that
-/// they put there ("Boxes of trees" in `docs/DECISIONS.md`).
+/// There is no condition. The clause that says so lets callers in other crates know that the tree in the box is the one
+/// that they put there ("Boxes of trees" in `docs/DECISIONS.md`).
 pub fn prepare(alloc: Global, tree: &mut Box<dyn Tree>, set: &CanonSet) -> Result<u64, ApplyFault>
     requires { ⊤ }
     ensures asking { IsAsking result (live tree.old) (live tree.new) }

@@ -400,7 +400,7 @@ cover_step s r u n k old next from to past h o w hu e same grows cost = record {
 
 pub cover_inside : (s r : State) (n k : ℕ) (old : Option ℕ) (from to : ℕ) → IsBoard s → old ≡ Some k → IsCoverWalk s r n old from to → length s.pile ≤ command_count s.tables →
     (k < node_count r.tables) × (length r.pile < 4 * command_count r.tables)
-cover_inside s r n k old from to h o w room =
+cover_inside s r n k old from to h o w space =
     let t : r.tables ≡ s.tables = ap (λ x. x.tables) w.same in
     let l : k < node_count s.tables = (w.next_at k o).0 in
     let m : command_count r.tables ≡ command_count s.tables = ap (λ (x : Tables). command_count x) t in
@@ -465,8 +465,8 @@ down_inside s r p n from to h w same =
     let k = within_pop p.pile n (node_count s.tables) (subst (λ x. IsWithin x (node_count s.tables)) (ap (λ x. x.pile) same) w.within) in
     let len : length r.pile ≡ length p.pile + 1 = ap length (ap (λ x. x.pile) same) ∙ length-append p.pile (n ∷ []) in
     let most : covered s ≤ command_count s.tables = count_most (is_covered s) (command_count s.tables) in
-    let room : length p.pile ≤ command_count s.tables = omega (arith, w.pile) in
-    (rw t k.1, rw t room, rw t k.0)
+    let space : length p.pile ≤ command_count s.tables = omega (arith, w.pile) in
+    (rw t k.1, rw t space, rw t k.0)
 
 pub down_step : (s r p u : State) (n from to mid past : ℕ) → IsBoard s → IsDownWalk s r from to → r ≡ record p { pile = p.pile ++ n ∷ [] } → mid ≡ to + 1 → IsBoard u → u ≡ record p { marks = u.marks; dirs = u.dirs; bare = u.bare; pile = u.pile } → Grows p u →
     IsWithin u.pile (node_count p.tables) → length u.pile + covered u ≤ length p.pile + covered p → past + 8 * opens u + 6 * covered u + 3 * length u.pile ≤ mid + 8 * opens p + 6 * covered p + 3 * length p.pile + 2 →

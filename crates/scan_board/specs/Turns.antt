@@ -58,7 +58,7 @@ abbrev pub up : Tables → ℕ → Option ℕ → Option ℕ
 up t zero o = o
 up t (suc k) o = up t k (parent_at t o)
 
--- the node is n or below it, as far as the table tells
+-- the node is n or below it, as far as the table says
 abbrev pub IsAtOrUnder : Tables → ℕ → ℕ → Type 0
 IsAtOrUnder t m n = (k : ℕ) × (up t k (Some m) ≡ Some n)
 

@@ -93,8 +93,8 @@ impl<L: Ledger> Board<L> {
         let cards = cards_of(alloc, joint, &naming)?;
         let dirs = count_dirs(alloc, &cards, naming.names.back.len())?;
         let spots = spots_of(alloc, joint, &naming, &families, &dirs)?;
-        let room = cards.len().checked_mul(4).ok_or(NoMemory)?;
-        let pile = Vec::with_capacity(alloc, room)?;
+        let space = cards.len().checked_mul(4).ok_or(NoMemory)?;
+        let pile = Vec::with_capacity(alloc, space)?;
         let Naming { numbers, .. } = naming;
         Ok(Board {
             numbers,

@@ -135,7 +135,7 @@ pub(crate) fn cards_of(alloc: Global, joint: &Joint, naming: &Naming) -> Result<
 /// Counts a command of a node, where it leaves a directory.
 fn add_dir(dirs: &mut Vec<u64>, node: usize, leaves: Kind)
     requires node { node < vec_len dirs.old }
-    requires room { slice_index dirs.old.items node + 1 < 2 ^ 64 }
+    requires space { slice_index dirs.old.items node + 1 < 2 ^ 64 }
     ensures dir { leaves ≡ kind.Dir →
         dirs.new.items ≡ slice_set dirs.old.items node (slice_index dirs.old.items node + 1) }
     ensures other { (leaves ≡ kind.Dir → ⊥) → dirs.new.items ≡ dirs.old.items }

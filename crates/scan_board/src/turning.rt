@@ -219,7 +219,7 @@ fn shut_up<L: Ledger>(board: &mut Board<L>, from: Option<usize>, steps: &mut Ste
 /// Blocks what leaves a child non-empty, puts the child on the pile, and gives the next one.
 fn cover_one<L: Ledger>(board: &mut Board<L>, child: usize, steps: &mut Steps<L>) -> Option<usize>
     requires child_in { child < node_count board.old.tables }
-    requires room { length board.old.pile < 4 * command_count board.old.tables }
+    requires space { length board.old.pile < 4 * command_count board.old.tables }
     ensures next { result ≡ sibling_of board.old.tables child }
     ensures same { board.new
         ≡ record board.old {
@@ -259,7 +259,7 @@ fn cover_children<L: Ledger>(
     requires board { IsBoard board.old }
     requires node_in { node < node_count board.old.tables }
     requires first_child { first_child ≡ child_of board.old.tables node }
-    requires room { length board.old.pile ≤ command_count board.old.tables }
+    requires space { length board.old.pile ≤ command_count board.old.tables }
     requires within { IsWithin board.old.pile (node_count board.old.tables) }
     ensures same { board.new
         ≡ record board.old {
@@ -293,7 +293,7 @@ fn cover_children<L: Ledger>(
 /// Blocks what leaves a child of a node non-empty, where this has not been done.
 fn cover<L: Ledger>(board: &mut Board<L>, node: usize, steps: &mut Steps<L>)
     requires node_in { node < node_count board.old.tables }
-    requires room { length board.old.pile ≤ command_count board.old.tables }
+    requires space { length board.old.pile ≤ command_count board.old.tables }
     requires within { IsWithin board.old.pile (node_count board.old.tables) }
     ensures same { board.new
         ≡ record board.old {

@@ -206,9 +206,9 @@ first_then_rest bytes at count = sym (take-append-drop count (drop at bytes)) �
 pub piece_then_rest : (bytes rest piece : List ℕ) (at count : ℕ) → rest ≡ drop at bytes → take count piece ≡ take count rest → drop at bytes ≡ take count piece ++ drop (at + count) bytes
 piece_then_rest bytes rest piece at count from same = first_then_rest bytes at count ∙ ap (λ t. t ++ drop (at + count) bytes) (sym (same ∙ ap (take count) from))
 
--- nothing is left where nothing was put into a piece with room
+-- nothing is left where nothing was put into a piece with space
 pub nothing_left : (bytes rest piece : List ℕ) (at count : ℕ) → rest ≡ drop at bytes → count ≡ min (length rest) (length piece) → count ≡ 0 → 0 < length piece → drop at bytes ≡ []
-nothing_left bytes rest piece at count from is none room = sym from ∙ empty rest (omega (arith, is, none, room))
+nothing_left bytes rest piece at count from is none space = sym from ∙ empty rest (omega (arith, is, none, space))
   where
     empty : (rest : List ℕ) → length rest ≡ 0 → rest ≡ []
     empty [] h = refl

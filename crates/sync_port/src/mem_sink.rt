@@ -15,25 +15,25 @@ pub struct MemSink {
     flush_fails: bool,
     faults: u64,
     ghost within: { vec_len bytes ≤ capacity },
-    ghost has_room: { capacity ≤ vec_capacity bytes },
+    ghost has_space: { capacity ≤ vec_capacity bytes },
 }
 
 impl MemSink {
     ghost use Rattle.sync_port.specs.InMemory.{bytes_written, bytes_flushed, capacity_of, flushes_fail, sink_faults};
 
-    /// A sink that takes `room` bytes in all, and whose flushes all fail or all succeed. It takes the memory
+    /// A sink that takes `space` bytes in all, and whose flushes all fail or all succeed. It takes the memory
     /// for its bytes at once.
-    pub fn new(alloc: Global, room: usize, flush_fails: bool) -> Result<MemSink, NoMemory>
+    pub fn new(alloc: Global, space: usize, flush_fails: bool) -> Result<MemSink, NoMemory>
         ensures written { IfOk result (λ s. bytes_written s ≡ []) }
         ensures flushed { IfOk result (λ s. bytes_flushed s ≡ 0) }
-        ensures capacity { IfOk result (λ s. capacity_of s ≡ room) }
+        ensures capacity { IfOk result (λ s. capacity_of s ≡ space) }
         ensures flush_fails { IfOk result (λ s. flushes_fail s ≡ flush_fails) }
         ensures faults { IfOk result (λ s. sink_faults s ≡ 0) }
     {
-        let bytes = Vec::with_capacity(alloc, room)?;
+        let bytes = Vec::with_capacity(alloc, space)?;
         Ok(MemSink {
             bytes,
-            capacity: room,
+            capacity: space,
             flushed: 0,
             flush_fails,
             faults: 0,

@@ -58,7 +58,7 @@ fn gather_name<O: Sink>(
     Ok(())
 }
 
-/// Gathers the text, and sends what was gathered where there is no room for it.
+/// Gathers the text, and sends what was gathered where there is no space for it.
 fn gather<O: Sink>(
     sink: &mut O,
     gathered: &mut ArrayString<BLOCK>,

@@ -49,7 +49,7 @@ pub fn read_piece<F: Files>(
     limit: usize,
 ) -> Result<usize, PortFault>
     requires within { taken ≤ limit }
-    requires room { 0 < length buffer.old }
+    requires space { 0 < length buffer.old }
     ensures bound { IfOk result (λ count. count ≤ length buffer.new) }
     ensures limit { IfOk result (λ count. taken + count ≤ limit + 1) }
     ensures length { length buffer.new ≡ length buffer.old }

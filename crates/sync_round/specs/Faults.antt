@@ -5,7 +5,7 @@ use Rattle.resume_apply.specs.declared.faults.ApplyFault.TheVariants as fault
 use Rattle.sync_round.specs.declared.faults.RoundFault.{RoundFault}
 use Rattle.sync_round.specs.declared.faults.RoundFault.TheVariants.{Tree, Memory}
 
--- want of memory names no tree
+-- out of memory names no tree
 abbrev pub fault_of : ℕ → ApplyFault → RoundFault
 fault_of number (fault.Diverged p) = Tree number (fault.Diverged p)
 fault_of number (fault.Blocked p) = Tree number (fault.Blocked p)

@@ -115,14 +115,14 @@ fn lead_all_on(
 /// Every tree is looked at for its transition before one is changed, tree 1 first in both walks; one transition is held
 /// at a time. Where a tree is not ready no tree is changed, and `Diverged` or `Blocked` names the first one that is not,
 /// with the node that `prepare` names. `Failed` and `Denied` name the tree whose call was refused, which it counted; a
-/// tree that is known denies nothing. `RoundFault::Memory` is want of memory here or in a tree, or a number of changes
-/// past `u64::MAX`, to which no machine comes.
+/// tree that is known denies nothing. `RoundFault::Memory` says that memory ran out here or in a tree, or that the
+/// changes are more than `u64::MAX`, to which no machine comes.
 ///
 /// At every exit either no tree was changed, or each one is on its way: it was ready, is ready with the same target, and
 /// holds outside its transition's nodes what it held. So another call goes on from there. After `Ok` each tree is its
 /// target, and the number is all the work that was left. Each change that a tree counts takes one off its work.
 ///
-/// The clause that always holds tells callers in other crates that the trees in the boxes are the ones that they put
+/// The clause that always holds says to callers in other crates that the trees in the boxes are the ones that they put
 /// there ("Boxes of trees" in `docs/DECISIONS.md`).
 pub fn round(
     alloc: Global,

@@ -247,7 +247,7 @@ no_text_refusal P held text r one right (inl h) = ok_no_err (one held (Ok text) 
 no_text_refusal P held text r one right (inr h) = ok_no_err (sym h.2)
 
 module _ (words : List Text) (before now : Outside) (status : ℕ) (ran : Ran words before now status) where
-  -- Where no refusal is right, the run ends with a right output or for want of memory, unless a call was refused.
+  -- Where no refusal is right, the run ends with a right output or out of memory, unless a call was refused.
   pub completes_of : (m : FileContents) (C : Check Output) → ((answer : Result Output Refusal) → IsAnswer words (held_tree before.trees) m.held false answer → C m.held false answer) → before.files.contents ≡ Some m →
       ((r : Refusal) → C m.held false (Err r) → ⊥) → ((failure : Failure) → InputsCounted (inputs_of before) (inputs_of now) failure → ⊥) → (FaultCounted before.out now.out → ⊥) →
       ((output : Output) × C m.held false (Ok output) × (status ≡ status_in output)) ⊎ (status ≡ 16)

@@ -79,11 +79,11 @@ module _ (held : Names) where
   logs_read (file ∷ files) (log ∷ logs) left h bytes commands =
       let b = sum_by-cons (λ (l : Recorded). length (text_of l)) log logs in
       let k = sum_by-cons (λ (l : Recorded). length l.commands) log logs in
-      let room : length (text_of log) ≤ left.bytes = omega (arith, b, bytes) in
+      let space : length (text_of log) ≤ left.bytes = omega (arith, b, bytes) in
       let more : sum_by (λ (l : Recorded). length (text_of l)) logs ≤ left.bytes - length (text_of log) = omega (arith, b, bytes) in
       let few : length log.commands ≤ left.commands = omega (arith, k, commands) in
       let rest : sum_by (λ (l : Recorded). length l.commands) logs ≤ left.commands - length log.commands = omega (arith, k, commands) in
-      inr (read_of log, log_read left file log h.0 h.1 room few, inr (reads_of logs, logs_read files logs (left_after left (read_of log)) h.2 more rest, refl))
+      inr (read_of log, log_read left file log h.0 h.1 space few, inr (reads_of logs, logs_read files logs (left_after left (read_of log)) h.2 more rest, refl))
 
   pub preferences_read : (prefs : Option Operand) (rules : List Rule) → HoldsRules held prefs rules → ArePreferences prefs held false (Ok rules)
   preferences_read None rules h = ap Ok h

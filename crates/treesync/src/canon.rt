@@ -35,8 +35,8 @@ pub fn canon<F: Files>(
     name: &str,
     files: &mut F,
 ) -> Result<Vec<u8>, Refusal>
-    ensures { Answers HasItems (IsCanon word name.now) ((name.now, FILE_LIMIT) ∷ []) (F.files files.old)
-        (F.files files.new) result }
+    ensures { Answers HasItems (IsCanon word name.now) ((name.now, FILE_LIMIT) ∷ [])
+        (F.files files.old) (F.files files.new) result }
 {
     let log = read_sum(alloc, word, name, FULL_ALLOWANCE, files)?;
     net_text(alloc, word, log)

@@ -45,8 +45,8 @@ pub fn read_file<F: Files>(
     limit: usize,
     files: &mut F,
 ) -> Result<Vec<u8>, Refusal>
-    ensures { Answers HasItems (IsFile limit word name.now) ((name.now, limit) ∷ []) (F.files files.old)
-        (F.files files.new) result }
+    ensures { Answers HasItems (IsFile limit word name.now) ((name.now, limit) ∷ [])
+        (F.files files.old) (F.files files.new) result }
 {
     match read_whole(alloc, files, name, limit) {
         Ok(bytes) => Ok(bytes),

@@ -181,8 +181,8 @@ pub fn read_log<F: Files, T: TakesCommands + Drop>(
 ) -> Result<LogFile<T>, Refusal>
     requires nothing { T.stands into [] }
     requires allowance { allowance.bytes ≤ FILE_LIMIT }
-    ensures { Answers (IsLogFile T.stands) (IsLog allowance word name.now) ((name.now, allowance.bytes) ∷ [])
-        (F.files files.old) (F.files files.new) result }
+    ensures { Answers (IsLogFile T.stands) (IsLog allowance word name.now)
+        ((name.now, allowance.bytes) ∷ []) (F.files files.old) (F.files files.new) result }
 {
     if let Err(fault) = files.open(name) {
         return Err(call_refusal(word, fault));
@@ -216,8 +216,8 @@ pub fn read_sum<F: Files>(
     files: &mut F,
 ) -> Result<LogFile<Total>, Refusal>
     requires { allowance.bytes ≤ FILE_LIMIT }
-    ensures { Answers (IsLogFile IsTotal) (IsLog allowance word name.now) ((name.now, allowance.bytes) ∷ [])
-        (F.files files.old) (F.files files.new) result }
+    ensures { Answers (IsLogFile IsTotal) (IsLog allowance word name.now)
+        ((name.now, allowance.bytes) ∷ []) (F.files files.old) (F.files files.new) result }
 {
     let nothing = Total {
         sum: LogSum::new(alloc),

@@ -85,7 +85,7 @@ fn write_lines<O: Sink>(
 /// how many there are, which it gives. It flushes nothing. Of the text only a block is kept at a time, and nothing of a
 /// reason once its line is written.
 ///
-/// `Failed` comes only where a fault of the sink was counted. After a refusal, which may be for want of memory at any
+/// `Failed` comes only where a fault of the sink was counted. After a refusal, which may be out of memory at any
 /// line, the sink gained the first bytes of the text.
 pub fn write_reasons<O: Sink>(
     alloc: Global,

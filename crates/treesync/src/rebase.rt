@@ -119,7 +119,8 @@ fn rebase_under<F: Files>(
     files: &mut F,
 ) -> Result<Vec<u8>, Refusal>
     ensures { Answers HasItems (IsRebaseOf wanted.now.side wanted.now.word wanted.now.rules.items
-        work.now names.now) (work_limits work.now names.now) (F.files files.old) (F.files files.new) result }
+        work.now names.now) (work_limits work.now names.now)
+        (F.files files.old) (F.files files.new) result }
 {
     let log = read_sum(alloc, work.place(), work.as_str(), FULL_ALLOWANCE, files)?;
     let left = left_after(FULL_ALLOWANCE, &log);

@@ -75,7 +75,8 @@ pub fn replay<F: Files>(
     files: &mut F,
 ) -> Result<Vec<u8>, Refusal>
     ensures { Answers HasItems (IsReplay snap_word snap.now log_word log.now)
-        ((snap.now, FILE_LIMIT) ∷ (log.now, FILE_LIMIT) ∷ []) (F.files files.old) (F.files files.new) result }
+        ((snap.now, FILE_LIMIT) ∷ (log.now, FILE_LIMIT) ∷ [])
+        (F.files files.old) (F.files files.new) result }
 {
     let snapshot = snapshot_file(alloc, snap_word, snap, files)?;
     let commands = Vec::new(alloc);

@@ -254,8 +254,8 @@ fn say_can_add<E: Sink>(
     log: u32,
     path: &Path,
 ) -> Result<(), SinkFailed>
-    ensures { SendsLine (can_add_line (text_at (map string_bytes words.now) place) log path.now) result
-        (E.sink err.old) (E.sink err.new) }
+    ensures { SendsLine (can_add_line (text_at (map string_bytes words.now) place) log path.now)
+        result (E.sink err.old) (E.sink err.new) }
 {
     let mut digits = Buffer::new();
     send_line_at(

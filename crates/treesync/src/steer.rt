@@ -98,7 +98,8 @@ pub fn steer<F: Files>(
 ) -> Result<Vec<u8>, Refusal>
     requires { length names.now ≤ MAX_LOGS }
     ensures { Answers HasItems (IsSteer (record { text = set.now; place = word }) names.now)
-        ((set.now, FILE_LIMIT) ∷ log_limits names.now) (F.files files.old) (F.files files.new) result }
+        ((set.now, FILE_LIMIT) ∷ log_limits names.now)
+        (F.files files.old) (F.files files.new) result }
 {
     let read = read_sum(alloc, word, set, FULL_ALLOWANCE, files)?;
     let logs = read_logs(alloc, FULL_ALLOWANCE, names, files)?;

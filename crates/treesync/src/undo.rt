@@ -49,8 +49,8 @@ pub fn undo<F: Files>(
     name: &str,
     files: &mut F,
 ) -> Result<Vec<u8>, Refusal>
-    ensures { Answers HasItems (IsUndo word name.now) ((name.now, FILE_LIMIT) ∷ []) (F.files files.old)
-        (F.files files.new) result }
+    ensures { Answers HasItems (IsUndo word name.now) ((name.now, FILE_LIMIT) ∷ [])
+        (F.files files.old) (F.files files.new) result }
 {
     let log = read_sum(alloc, word, name, FULL_ALLOWANCE, files)?;
     undone(alloc, word, log)

@@ -197,7 +197,7 @@ pub fn write_number<O: Sink>(
 /// Writes a line for each clash of the joint's drawn commands, in order, and then how many there are, which it gives.
 /// It flushes nothing. Of the text only a block is kept at a time, and nothing of a clash once its line is written.
 ///
-/// `Failed` comes only where a fault of the sink was counted. After a refusal, which may be for want of memory at any
+/// `Failed` comes only where a fault of the sink was counted. After a refusal, which may be out of memory at any
 /// line, the sink gained the first bytes of the text.
 pub fn write_clashes<O: Sink>(alloc: Global, joint: &Joint, out: &mut O) -> Result<u64, WriteFault>
     ensures faults { WriteFaults result (O.sink out.old) (O.sink out.new) }

@@ -208,12 +208,12 @@ fn a_write_and_a_flush_that_fail_are_answered(rt: HostRuntime) -> Result<(), Fai
 }
 
 #[test]
-fn a_stream_takes_what_it_has_room_for(rt: HostRuntime) -> Result<(), Fail> {
-    let mut room = [0u8; 3];
-    let mut sink = HostSink::new(io::Cursor::new(room.as_mut_slice()));
+fn a_stream_takes_what_it_has_space_for(rt: HostRuntime) -> Result<(), Fail> {
+    let mut space = [0u8; 3];
+    let mut sink = HostSink::new(io::Cursor::new(space.as_mut_slice()));
     assert_eq!(rt; send(&mut sink, b"trees"), Err(SinkFailed));
     assert_eq!(rt; sink.flush(), Ok(()));
-    assert_eq!(rt; room.as_slice(), b"tre".as_slice());
+    assert_eq!(rt; space.as_slice(), b"tre".as_slice());
     Ok(())
 }
 

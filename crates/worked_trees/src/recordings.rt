@@ -201,9 +201,9 @@ fn is_result(alloc: Global, tree: &mut Box<dyn Tree>, map: &TreeMap) -> Result<b
 
 /// Whether the recording of the script ends early. What it leaves is sealed then, and leads from the empty tree to the
 /// tree as it is.
-fn is_stopped(alloc: Global, room: usize, shots: Vec<Shot>) -> Result<bool, Fail> {
+fn is_stopped(alloc: Global, space: usize, shots: Vec<Shot>) -> Result<bool, Fail> {
     let (version, script) = read_script(alloc, SCRIPT.as_bytes())?;
-    let mut sink = MemSink::new(alloc, room, false)?;
+    let mut sink = MemSink::new(alloc, space, false)?;
     let mut tree: Box<dyn Tree> = Box::new(alloc, FuseTree::new(TreeMap::new(alloc), shots))?;
     if record(alloc, &mut tree, version, &script, &mut sink).is_ok() {
         return Ok(false);
@@ -245,8 +245,8 @@ fn open_logs_are_sealed(rt: HostRuntime) -> Result<(), Fail> {
 #[test]
 fn what_a_stop_leaves_is_sealed(rt: HostRuntime) -> Result<(), Fail> {
     let alloc = rt.alloc();
-    for room in 0..LOG.len() {
-        assert!(rt; is_stopped(alloc, room, Vec::new(alloc))?, "room {room}");
+    for space in 0..LOG.len() {
+        assert!(rt; is_stopped(alloc, space, Vec::new(alloc))?, "space {space}");
     }
     for done in [false, true] {
         for call in 1..100 {

@@ -375,7 +375,7 @@ impl<R: std::rt::Files + Clone + Drop> Folder<R> {
     }
 
     /// Removes a folder that has nothing but names of the adapter: it is taken from its place in one step. Once it is
-    /// away no memory is taken where its label is all that it has, so that want of memory leaves it in its place.
+    /// away no memory is taken where its label is all that it has, so that it stays in its place where memory runs out.
     fn remove_with_label(&mut self, path: &Path, text: &str) -> Result<(), TreeFault> {
         if !self.children(self.alloc, Some(path))?.is_empty() {
             return Err(TreeFault::Denied);

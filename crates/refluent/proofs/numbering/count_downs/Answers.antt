@@ -7,8 +7,8 @@ use Rattle.refluent.proofs.numbering.count_downs.Goals.{then-has_down, else-has_
 pub count_one-requires-clause-log : goal.count_one-requires-clause-log
 count_one-requires-clause-log c = log_low _ _ _ c.requires _ _ c.claims-test.true c.claim-item.is (c.claims.invariant.many)
 
-pub count_one-requires-clause-room : goal.count_one-requires-clause-room
-count_one-requires-clause-room c = let a = downs_few _ _ _ _ (log_low _ _ _ c.requires _ _ c.claims-test.true c.claim-item.is (c.claims.invariant.many)) c.claims.invariant.each in omega (arith, a, c.claims-test.true)
+pub count_one-requires-clause-space : goal.count_one-requires-clause-space
+count_one-requires-clause-space c = let a = downs_few _ _ _ _ (log_low _ _ _ c.requires _ _ c.claims-test.true c.claim-item.is (c.claims.invariant.many)) c.claims.invariant.each in omega (arith, a, c.claims-test.true)
 
 pub claims-preserved : goal.claims-preserved
 claims-preserved c = elim c.if-has_down.branch [

@@ -9,8 +9,8 @@ use Rattle.scan_board.proofs.building.count_dirs.Goals as goal
 pub cards-init : goal.cards-init
 cards-init c = counted_zeros c.args.cards.now c.in_ok-dirs.dirs.items c.args.total c.in_ok-dirs.ensures
 
-pub add_dir-requires-clause-room : goal.add_dir-requires-clause-room
-add_dir-requires-clause-room c =
+pub add_dir-requires-clause-space : goal.add_dir-requires-clause-space
+add_dir-requires-clause-space c =
     let b : slice_index c.cards.dirs.items (card_at c.args.cards.now c.cards.number).node ≤ c.cards.number = counted_bound c.args.cards.now c.cards.dirs.items c.args.total c.cards.number (card_at c.args.cards.now c.cards.number).node c.cards.invariant (c.requires c.cards.number c.cards-test.true) in
     omega arith
 

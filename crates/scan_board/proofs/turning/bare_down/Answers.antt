@@ -15,8 +15,8 @@ loop-top-init g c = (
 pub cover-requires-clause-node_in : goal.cover-requires-clause-node_in
 cover-requires-clause-node_in g c = (down_inside c.args.board.now c.loop-top.board c.pop.new.self c.in-Some.top c.args.steps.now c.loop-top.steps c.requires.board c.loop-top.invariant.0 c.in-Some.ensures.some).0
 
-pub cover-requires-clause-room : goal.cover-requires-clause-room
-cover-requires-clause-room g c = (down_inside c.args.board.now c.loop-top.board c.pop.new.self c.in-Some.top c.args.steps.now c.loop-top.steps c.requires.board c.loop-top.invariant.0 c.in-Some.ensures.some).1
+pub cover-requires-clause-space : goal.cover-requires-clause-space
+cover-requires-clause-space g c = (down_inside c.args.board.now c.loop-top.board c.pop.new.self c.in-Some.top c.args.steps.now c.loop-top.steps c.requires.board c.loop-top.invariant.0 c.in-Some.ensures.some).1
 
 pub cover-requires-clause-within : goal.cover-requires-clause-within
 cover-requires-clause-within g c = (down_inside c.args.board.now c.loop-top.board c.pop.new.self c.in-Some.top c.args.steps.now c.loop-top.steps c.requires.board c.loop-top.invariant.0 c.in-Some.ensures.some).2

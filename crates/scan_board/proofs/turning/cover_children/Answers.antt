@@ -12,11 +12,11 @@ loop-next-init g c = (cover_start c.args.board.now c.args.node c.args.first_chil
 
 pub cover_one-next-requires-clause-child_in : goal.cover_one-next-requires-clause-child_in
 cover_one-next-requires-clause-child_in g c =
-    (cover_inside c.args.board.now c.loop-next.board c.args.node c.in-Some.child c.loop-next.next c.args.steps.now c.loop-next.steps c.requires.board c.in-Some.is c.loop-next.invariant.0 c.requires.room).0
+    (cover_inside c.args.board.now c.loop-next.board c.args.node c.in-Some.child c.loop-next.next c.args.steps.now c.loop-next.steps c.requires.board c.in-Some.is c.loop-next.invariant.0 c.requires.space).0
 
-pub cover_one-next-requires-clause-room : goal.cover_one-next-requires-clause-room
-cover_one-next-requires-clause-room g c =
-    (cover_inside c.args.board.now c.loop-next.board c.args.node c.in-Some.child c.loop-next.next c.args.steps.now c.loop-next.steps c.requires.board c.in-Some.is c.loop-next.invariant.0 c.requires.room).1
+pub cover_one-next-requires-clause-space : goal.cover_one-next-requires-clause-space
+cover_one-next-requires-clause-space g c =
+    (cover_inside c.args.board.now c.loop-next.board c.args.node c.in-Some.child c.loop-next.next c.args.steps.now c.loop-next.steps c.requires.board c.in-Some.is c.loop-next.invariant.0 c.requires.space).1
 
 pub loop-next-smaller : goal.loop-next-smaller
 loop-next-smaller g c =

@@ -1,12 +1,12 @@
 use Rattle.std.proofs.Common.{arith}
-use Rattle.refluent.proofs.Numbered.{add_down, add_room, add_more, add_none, group_low, log_few, drawn_low, if_repeated, if_new}
+use Rattle.refluent.proofs.Numbered.{add_down, add_space, add_more, add_none, group_low, log_few, drawn_low, if_repeated, if_new}
 use Rattle.refluent.proofs.numbering.Numbering.add.Goals as goal
 
 pub next_place-at-requires-clause-some_down : goal.next_place-at-requires-clause-some_down
 next_place-at-requires-clause-some_down c = add_down c.args.claims.now c.requires.ordered c.args.place c.index-claims-place.result (group_low _ _ _ c.requires.group c.requires.high) c.index-claims-place.is c.args.self.now c.requires.so_far c.change_of.result c.change_of.ensures c.in-Some.is_down c.in-Some.is
 
-pub next_place-at-requires-clause-room : goal.next_place-at-requires-clause-room
-next_place-at-requires-clause-room c e = let h = add_room c.args.claims.now c.requires.ordered c.args.place c.index-claims-place.result (group_low _ _ _ c.requires.group c.requires.high) c.index-claims-place.is c.args.self.now c.requires.so_far c.change_of.result c.change_of.ensures c.in-Some.is_down c.in-Some.is e in omega (arith, h)
+pub next_place-at-requires-clause-space : goal.next_place-at-requires-clause-space
+next_place-at-requires-clause-space c e = let h = add_space c.args.claims.now c.requires.ordered c.args.place c.index-claims-place.result (group_low _ _ _ c.requires.group c.requires.high) c.index-claims-place.is c.args.self.now c.requires.so_far c.change_of.result c.change_of.ensures c.in-Some.is_down c.in-Some.is e in omega (arith, h)
 
 pub overflow_cast-claim : goal.overflow_cast-claim
 overflow_cast-claim c = let h = log_few c.args.claims.now c.args.place c.index-claims-place.result (group_low _ _ _ c.requires.group c.requires.high) c.index-claims-place.is c.args.self.now c.requires.so_far c.requires.few in omega (arith, h)

@@ -11,7 +11,7 @@ invariant_of-self g c =
     let card : Card = record { node = c.index.result.now.node; leaves = c.index.result.now.leaves; next = c.index.result.now.next; mark = c.args.mark } in
     let is = marked c.self.inside.numbers c.self.inside.cards.items c.self.inside.spots.items c.self.inside.pile.items c.args.command c.index.result.now c.args.mark c.index.ensures in
     let long : length (slice_set c.self.inside.cards.items c.args.command card) ≡ length c.self.inside.cards.items = length-set c.self.inside.cards.items c.args.command card in
-    let room : 4 * length c.self.inside.cards.items ≤ vec_capacity c.self.inside.pile = c.self.invariant.1 in (
+    let space : 4 * length c.self.inside.cards.items ≤ vec_capacity c.self.inside.pile = c.self.invariant.1 in (
       board_marked (state_of c.self.inside.numbers c.self.inside.cards.items c.self.inside.spots.items c.self.inside.pile.items)
           (state_of c.self.inside.numbers (slice_set c.self.inside.cards.items c.args.command card) c.self.inside.spots.items c.self.inside.pile.items) c.args.command c.args.mark c.self.invariant.0 is,
       omega arith,

@@ -19,9 +19,9 @@ invariant_of-result g c =
     let long : c.len.result ≡ length c.in_ok-naming.naming.names.back.items = omega (arith, c.len.ensures, c.in_ok-naming.naming.names.back.ok.0) in
     let w = made c.args.joint.now c.in_ok-naming.naming c.in_ok-naming.ensures c.in_ok-families.families c.in_ok-families.ensures c.in_ok-cards.cards.items c.in_ok-cards.ensures
     c.deref.result.now c.len.result c.in_ok-dirs.dirs.items c.deref.ensures.value long c.in_ok-dirs.ensures c.deref-2.result.now c.in_ok-spots.spots.items c.deref-2.ensures.value c.in_ok-spots.ensures c.in_ok-pile.pile.items c.in_ok-pile.ensures.items in
-    let times : c.in_ok-room.room ≡ c.len-2.result * 4 = product_is c.checked_mul.result c.in_ok-room.room (c.len-2.result * 4) (c.len-2.result * 4 < 2 ^ 64) c.in_ok-room.ensures.ok_part c.checked_mul.ensures in
-    let room : 4 * length c.in_ok-cards.cards.items ≤ vec_capacity c.in_ok-pile.pile = omega (arith, times, c.len-2.ensures, c.in_ok-pile.ensures.exact, c.in_ok-cards.cards.ok.0) in
-    (w.board, room)
+    let times : c.in_ok-space.space ≡ c.len-2.result * 4 = product_is c.checked_mul.result c.in_ok-space.space (c.len-2.result * 4) (c.len-2.result * 4 < 2 ^ 64) c.in_ok-space.ensures.ok_part c.checked_mul.ensures in
+    let space : 4 * length c.in_ok-cards.cards.items ≤ vec_capacity c.in_ok-pile.pile = omega (arith, times, c.len-2.ensures, c.in_ok-pile.ensures.exact, c.in_ok-cards.cards.ok.0) in
+    (w.board, space)
 
 pub returns : goal.returns
 returns g c =
