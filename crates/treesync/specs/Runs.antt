@@ -12,7 +12,7 @@ use Rattle.tool_words.specs.declared.job.WordFault.TheVariants as word
 use Rattle.treesync.specs.Apply.{OfOnlyTree}
 use Rattle.treesync.specs.Checks.{FilesCounted, IsAllowed, IsOfJob, ReadsFiles, Unless}
 use Rattle.treesync.specs.Ends.{Prints, Says, end_line, line_of}
-use Rattle.treesync.specs.Jobs.{NoneFailed, Outside, Ran}
+use Rattle.treesync.specs.Jobs.{Keeps, NoneFailed, Outside, Ran}
 use Rattle.treesync.specs.Messages.{message_of, status_of}
 use Rattle.treesync.specs.Outputs.{Output}
 use Rattle.treesync.specs.Record.{IsScript, RecordsOnTree, Script, record_refusal}
@@ -90,3 +90,9 @@ pub record EndsRight (job : Option Job) (before now : Outside) (status : ℕ) : 
   pub refused : status ≡ 2 → job ≡ None
   pub invalid : job ≡ None → (status ≡ 2) ⊎ (status ≡ 16)
   pub done : status ≤ 1 → NoneFailed before now
+
+-- What is said of the run of any words: what explains it, what stays as it was, and which status it may have.
+pub record IsExplained (words : List Text) (before now : Outside) (status : ℕ) : Type 0 where
+  pub runs : Runs words before now status
+  pub keeps : Keeps words before now
+  pub ends : EndsRight (job_of words) before now status

@@ -24,8 +24,6 @@ mod run;
 mod seal;
 mod steer;
 mod sync;
-#[cfg(test)]
-mod tests;
 mod transitions;
 mod undo;
 mod writing;

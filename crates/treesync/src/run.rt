@@ -2,15 +2,14 @@
 
 ghost use Rattle.std.specs.Prelude.{◌≡◌, [], Ok, Option, Some, length, map, string_bytes};
 ghost use Rattle.sync_command.specs.Maps.{Store};
-ghost use Rattle.tool_words.specs.Jobs.{job_of};
 ghost use Rattle.tool_words.specs.LogCounts.{HasFewLogs};
 ghost use Rattle.tool_words.specs.Help.{help_text};
 ghost use Rattle.tool_words.specs.Trees.{job_folders};
 ghost use Rattle.treesync.specs.Answering.{StandsForOutput};
 ghost use Rattle.treesync.specs.Checks.{Answers, HasItems, IsJudged, IsOne};
-ghost use Rattle.treesync.specs.Jobs.{FindsJob, HasItsTrees, IsAnswer, IsJobAnswer, Keeps, inputs, limits_of, outside};
+ghost use Rattle.treesync.specs.Jobs.{FindsJob, HasItsTrees, IsAnswer, IsJobAnswer, inputs, limits_of, outside};
 ghost use Rattle.treesync.specs.Promises.{Promises};
-ghost use Rattle.treesync.specs.Runs.{EndsRight, IsAnswered, Runs, words_refusal};
+ghost use Rattle.treesync.specs.Runs.{IsAnswered, IsExplained, words_refusal};
 
 use crate::answer::{of_explained, of_joint, of_text};
 use crate::apply::apply;
@@ -130,20 +129,8 @@ fn run_words<F: Files, O: Sink, E: Sink>(
     out: &mut O,
     err: &mut E,
 ) -> u8
-    ensures runs { HasItsTrees (map string_bytes words.now) trees.old.items →
-        Runs (map string_bytes words.now)
-        (outside (F.files files.old) (map (λ tree. live tree) trees.old.items) (O.sink out.old)
-        (E.sink err.old))
-        (outside (F.files files.new) (map (λ tree. live tree) trees.new.items) (O.sink out.new)
-        (E.sink err.new)) result }
-    ensures keeps { HasItsTrees (map string_bytes words.now) trees.old.items →
-        Keeps (map string_bytes words.now)
-        (outside (F.files files.old) (map (λ tree. live tree) trees.old.items) (O.sink out.old)
-        (E.sink err.old))
-        (outside (F.files files.new) (map (λ tree. live tree) trees.new.items) (O.sink out.new)
-        (E.sink err.new)) }
-    ensures ends { HasItsTrees (map string_bytes words.now) trees.old.items →
-        EndsRight (job_of (map string_bytes words.now))
+    ensures { HasItsTrees (map string_bytes words.now) trees.old.items →
+        IsExplained (map string_bytes words.now)
         (outside (F.files files.old) (map (λ tree. live tree) trees.old.items) (O.sink out.old)
         (E.sink err.old))
         (outside (F.files files.new) (map (λ tree. live tree) trees.new.items) (O.sink out.new)

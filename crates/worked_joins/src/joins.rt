@@ -1,8 +1,7 @@
-//! Joints of small logs, and logs that disagree.
+//! Joints of small logs.
 
-use crate::logs::{sum, sums};
-use canon_set::LogSum;
-use refluent::{JoinFault, Joint, MAX_LOGS, join};
+use crate::logs::joined;
+use refluent::Joint;
 use std::alloc::Global;
 use std::test::Fail;
 use worked_texts::lines::Line;
@@ -30,51 +29,15 @@ fn text_of(alloc: Global, joint: &Joint) -> Result<Vec<u8>, Fail> {
     Ok(out)
 }
 
-/// The joint of at most 64 logs.
-fn join_few(alloc: Global, sums: Vec<LogSum>) -> Result<Joint, JoinFault> {
-    if sums.len() > MAX_LOGS {
-        return Err(JoinFault::Memory);
-    }
-    join(alloc, sums)
-}
-
-/// The text of the joint of some logs, or the two logs that disagree and their node.
-fn answer(alloc: Global, sums: Vec<LogSum>) -> Result<Vec<u8>, Fail> {
-    match join_few(alloc, sums) {
-        Ok(joint) => text_of(alloc, &joint),
-        Err(JoinFault::Memory) => Ok(Vec::new(alloc)),
-        Err(
-            JoinFault::NoCommonTree {
-                first,
-                second,
-                path,
-            },
-        ) => {
-            let mut out = Vec::new(alloc);
-            out.extend_from_slice(format!(in alloc; "{first} and {second} at ")?.as_bytes())?;
-            path.print_to(&mut out)?;
-            Ok(out)
-        }
-    }
-}
-
 /// A folder with a file is made.
 const MADE: &[Line] = &[("a", "-", "d"), ("a/x", "-", "f:1")];
 
-/// Logs, and what is joined of them, or the two that disagree and their node.
+/// Logs, and what is joined of them.
 const JOINTS: &[(&[&[Line]], &str)] = &[
     (&[&[]], "0"),
     (
         &[MADE, MADE, MADE],
         "a - 1.0 2.0 3.0 | a/x - in 0 1.1 2.1 3.1 | 2",
-    ),
-    (
-        &[&[("a", "d", "-")], &[("a/x", "f:1", "f:2")]],
-        "1 and 2 at a/x",
-    ),
-    (
-        &[&[("a/x", "-", "f:1")], &[("a", "-", "d")]],
-        "1 and 2 at a",
     ),
     // the down commands come first in a net set, in descending path order
     (
@@ -91,24 +54,7 @@ const JOINTS: &[(&[&[Line]], &str)] = &[
         &[&[("t", "-", "d"), ("t", "d", "-")], &[("t", "-", "f:1")]],
         "t - 2.0 | 1",
     ),
-    // of the pairs that disagree the least, at its first node
-    (
-        &[
-            &[("a", "f:1", "f:2"), ("c", "f:1", "f:2")],
-            &[("b", "f:1", "f:2")],
-            &[
-                ("b", "f:9", "f:2"),
-                ("c", "f:9", "f:2"),
-                ("a", "f:9", "f:2"),
-            ],
-        ],
-        "1 and 3 at a",
-    ),
     // labels
-    (
-        &[&[("a", "d:x", "d:y")], &[("a", "d", "-")]],
-        "1 and 2 at a",
-    ),
     (
         &[&[("a", "d:x", "d:y")], &[("a/b", "-", "d")]],
         "a d:x 1.0 | a/b - in 0 2.0 | 2",
@@ -134,27 +80,8 @@ const JOINTS: &[(&[&[Line]], &str)] = &[
 #[test]
 fn joins_of_small_logs(rt: HostRuntime) -> Result<(), Fail> {
     for &(logs, expected) in JOINTS {
-        let found = answer(rt.alloc(), sums(rt.alloc(), logs)?)?;
+        let found = text_of(rt.alloc(), &joined(rt.alloc(), logs)?)?;
         assert!(rt; found.as_slice() == expected.as_bytes(), "{expected}");
     }
-    Ok(())
-}
-
-#[test]
-fn sixty_four_logs(rt: HostRuntime) -> Result<(), Fail> {
-    let alloc = rt.alloc();
-    let mut alike = Vec::new(alloc);
-    let mut last_differs = Vec::new(alloc);
-    for log in 0..64 {
-        alike.push(sum(alloc, &[("d/x", "f:1", "f:2")])?)?;
-        let old = if log == 63 { "f:9" } else { "f:1" };
-        last_differs.push(sum(alloc, &[("d/x", old, "f:2")])?)?;
-    }
-    let joint = join_few(alloc, alike)?;
-    assert!(rt; joint.logs() == 64 && joint.drawn() == 1 && joint.nodes() == 2);
-    assert!(rt; joint.commands(1).len() == 64);
-    assert!(rt; joint.first_root() == Some(0) && joint.first_child(0) == Some(1));
-    assert!(rt; joint.first_child(1).is_none() && joint.next_sibling(1).is_none());
-    assert!(rt; answer(alloc, last_differs)?.as_slice() == b"1 and 64 at d/x".as_slice());
     Ok(())
 }

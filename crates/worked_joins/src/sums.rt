@@ -1,7 +1,7 @@
-//! Sums of small logs, and their net sets.
+//! Sums of small logs, and sets that are copied, inverted and looked up.
 
 use crate::logs::sum;
-use canon_set::{CanonFault, CanonSet, canon};
+use canon_set::{CanonSet, canon};
 use std::alloc::Global;
 use std::test::Fail;
 use sync_command::Kind;
@@ -19,35 +19,6 @@ fn text(alloc: Global, set: &CanonSet) -> Result<Vec<u8>, Fail> {
 
 /// A directory with one file in it becomes a file.
 const REPLACED: &[Line] = &[("a/x", "f:1", "-"), ("a", "d", "-"), ("a", "-", "f:2")];
-
-/// Logs, and the lines of their net sets.
-const NET_SETS: &[(&[Line], &str)] = &[
-    (
-        &[("a/x", "f:1", "f:2"), ("a/x", "f:2", "f:3")],
-        "a/x f:1 f:3\n",
-    ),
-    (&[("t", "-", "f:1"), ("t", "f:1", "-")], ""),
-    (REPLACED, "a/x f:1 -\na d f:2\n"),
-    (&[("end", "-", "d")], "end - d\n"),
-];
-
-#[test]
-fn net_sets_of_logs(rt: HostRuntime) -> Result<(), Fail> {
-    for &(lines, expected) in NET_SETS {
-        let commands = commands(rt.alloc(), lines)?;
-        let made = text(rt.alloc(), &canon(rt.alloc(), &commands)?)?;
-        assert!(rt; made.as_slice() == expected.as_bytes(), "{expected}");
-    }
-    Ok(())
-}
-
-#[test]
-fn a_log_that_no_tree_takes_is_refused(rt: HostRuntime) -> Result<(), Fail> {
-    let commands = commands(rt.alloc(), &[("a", "f:1", "f:2"), ("a", "f:3", "f:4")])?;
-    let refused = canon(rt.alloc(), &commands);
-    assert!(rt; matches!(refused, Err(CanonFault::Broken { number: 2 })));
-    Ok(())
-}
 
 /// Nodes, and whether the net set names each.
 const LOOKED_UP: &[(&str, bool)] = &[("a", true), ("a/x", true), ("a/y", false), ("x", false)];

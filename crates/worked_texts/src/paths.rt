@@ -33,36 +33,6 @@ fn hash_of<T: Hash>(value: &T) -> u64 {
     hasher.finish()
 }
 
-/// Texts, and what each is read as: the text of the path, or the message of the fault.
-const TEXTS: &[(&[u8], &[u8])] = &[
-    (b"a/b%20c/%C3%A9", b"a/b%20c/%C3%A9"),
-    (b"end", b"end"),
-    (b"a//b", b"no name"),
-    (b"", b"no name"),
-    (b".", b"no name"),
-    (b"a/..", b"no name"),
-    (b".sync-x", b"no name"),
-    (b"%00", b"no name"),
-    (b"%C3", b"no name"),
-    (b"%41", b"bad escape"),
-    (b"a%2fb", b"bad escape"),
-    (b"a%", b"bad escape"),
-    (b"a\x80", b"bad escape"),
-    (b"./%41", b"bad escape"),
-];
-
-#[test]
-fn texts_are_read(rt: HostRuntime) -> Result<(), Fail> {
-    let alloc = rt.alloc();
-    for &(text, expected) in TEXTS {
-        assert_eq!(rt;
-            answer(alloc, Path::read(alloc, text))?.as_slice(),
-            expected
-        );
-    }
-    Ok(())
-}
-
 #[test]
 fn limits_are_kept(rt: HostRuntime) -> Result<(), Fail> {
     let alloc = rt.alloc();
@@ -73,13 +43,8 @@ fn limits_are_kept(rt: HostRuntime) -> Result<(), Fail> {
     let root = Path::root(alloc, &longest)?;
     let node = root.child(alloc, b"x")?;
     let cases = [
-        (
-            Path::read(alloc, &repeated(alloc, b"a", MAX_NAMES + 1)?),
-            b"too deep".as_slice(),
-        ),
         (full.child(alloc, b"."), b"too deep".as_slice()),
         (node.moved(alloc, &root, &full), b"too deep".as_slice()),
-        (Path::read(alloc, &longer), b"a name is too long".as_slice()),
         (Path::root(alloc, &longer), b"a name is too long".as_slice()),
         (root.child(alloc, &longer), b"a name is too long".as_slice()),
     ];

@@ -12,12 +12,13 @@ returns-clause-one g c = answer_one (map string_bytes c.args.words.now)
 
 pub returns-clause-promises : goal.returns-clause-promises
 returns-clause-promises g c = λ has.
-    let ran = c.run_words.ensures.runs has in
+    let explained = c.run_words.ensures has in
+    let ran = explained.runs in
     let lone = no_trees_of (map string_bytes c.args.words.now) _ (length-map _ _ ∙ has) in
     record {
       ran = ran;
-      keeps = c.run_words.ensures.keeps has;
-      ends = c.run_words.ensures.ends has;
+      keeps = explained.keeps;
+      ends = explained.ends;
       completes = runs_complete _ _ _ _ lone ran;
       merges = runs_merger _ _ _ _ ran;
       steers = runs_steered _ _ _ _ lone ran;
