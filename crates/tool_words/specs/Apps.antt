@@ -29,10 +29,14 @@ operands id = record (new_rule id) { required = true; action = Some Append }
 abbrev pub prefs_option : Rule
 prefs_option = record (new_rule (codes "prefs")) { long = Some (codes "prefs") }
 
+-- NAME [--prefs FILE]
+abbrev pub prefs_app : Text → App
+prefs_app name = with_rule (new_app name) prefs_option
+
 -- NAME [--prefs FILE] LOG...
 abbrev pub logs_app : Text → App
-logs_app name = with_rule (with_rule (new_app name) prefs_option) (operands (codes "logs"))
+logs_app name = with_rule (prefs_app name) (operands (codes "logs"))
 
 -- NAME [--prefs FILE] FIRST LOG...
 abbrev pub first_logs_app : Text → App
-first_logs_app name = with_rule (with_rule (with_rule (new_app name) prefs_option) (operand (codes "first"))) (operands (codes "logs"))
+first_logs_app name = with_rule (with_rule (prefs_app name) (operand (codes "first"))) (operands (codes "logs"))

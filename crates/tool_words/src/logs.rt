@@ -8,7 +8,7 @@ ghost use Rattle.std.specs.Prelude.{◌≡◌, true, ◌≤◌, ◌-◌, IfOk, I
 ghost use Rattle.std.specs.List.{list_all};
 ghost use Rattle.clap.specs.Words.{app_of, first_value, found_of, matched_of, raw_values};
 ghost use Rattle.tool_words.specs.declared.job.WordFault.TheVariants.{Refused};
-ghost use Rattle.tool_words.specs.Apps.{logs_app, first_logs_app};
+ghost use Rattle.tool_words.specs.Apps.{logs_app, first_logs_app, prefs_app};
 ghost use Rattle.tool_words.specs.Words.{texts_of, is_plain, numbered, operand_at, operands_of};
 ghost use Rattle.tool_words.specs.Logs.{is_log_count, parts_of, part_texts, file_and_texts, file_first_and_texts, only_logs, first_logs, prefs_logs, prefs_first_logs};
 
@@ -59,27 +59,33 @@ fn have_parts(words: &[String]) -> bool
     }
 }
 
+/// The app of a command `NAME [--prefs FILE]`.
+fn prefs_command<'a>(alloc: Global, name: &'a str) -> Result<Command<'a>, AllocError>
+    ensures { IfOk result (λ command. app_of command ≡ prefs_app name.entry.now) }
+{
+    let prefs = Arg::new(alloc, "prefs").long("prefs");
+    Command::new(alloc, name).arg(prefs)
+}
+
 /// The app of a command `NAME [--prefs FILE] LOG...`.
 fn logs_command<'a>(alloc: Global, name: &'a str) -> Result<Command<'a>, AllocError>
     ensures { IfOk result (λ command. app_of command ≡ logs_app name.entry.now) }
 {
-    let prefs = Arg::new(alloc, "prefs").long("prefs");
     let logs = Arg::new(alloc, "logs")
         .required(true)
         .action(ArgAction::Append);
-    Command::new(alloc, name).arg(prefs)?.arg(logs)
+    prefs_command(alloc, name)?.arg(logs)
 }
 
 /// The app of a command `NAME [--prefs FILE] FIRST LOG...`.
 fn first_and_logs_command<'a>(alloc: Global, name: &'a str) -> Result<Command<'a>, AllocError>
     ensures { IfOk result (λ command. app_of command ≡ first_logs_app name.entry.now) }
 {
-    let prefs = Arg::new(alloc, "prefs").long("prefs");
     let first = Arg::new(alloc, "first").required(true);
     let logs = Arg::new(alloc, "logs")
         .required(true)
         .action(ArgAction::Append);
-    Command::new(alloc, name).arg(prefs)?.arg(first)?.arg(logs)
+    prefs_command(alloc, name)?.arg(first)?.arg(logs)
 }
 
 /// Clap's matches of the words of a command `NAME [--prefs FILE] LOG...`.

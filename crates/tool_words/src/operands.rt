@@ -61,22 +61,16 @@ fn one_operand_command<'a>(alloc: Global, name: &'a str) -> Result<Command<'a>, 
 fn two_operands_command<'a>(alloc: Global, name: &'a str) -> Result<Command<'a>, AllocError>
     ensures { IfOk result (λ command. app_of command ≡ two_operand_app name.entry.now) }
 {
-    let first = Arg::new(alloc, "first").required(true);
     let second = Arg::new(alloc, "second").required(true);
-    Command::new(alloc, name).arg(first)?.arg(second)
+    one_operand_command(alloc, name)?.arg(second)
 }
 
 /// The app of a command `NAME FIRST SECOND THIRD`.
 fn three_operands_command<'a>(alloc: Global, name: &'a str) -> Result<Command<'a>, AllocError>
     ensures { IfOk result (λ command. app_of command ≡ three_operand_app name.entry.now) }
 {
-    let first = Arg::new(alloc, "first").required(true);
-    let second = Arg::new(alloc, "second").required(true);
     let third = Arg::new(alloc, "third").required(true);
-    Command::new(alloc, name)
-        .arg(first)?
-        .arg(second)?
-        .arg(third)
+    two_operands_command(alloc, name)?.arg(third)
 }
 
 impl From<Error> for WordFault {
