@@ -82,6 +82,16 @@ MayCopy number p q (Err WriteFault) m = ⊥
 MayCopy number p q (Err TreeFailed) m = ⊤
 MayCopy number p q (Err Memory) m = ⊤
 
+-- the refusal for one reason, which comes exactly where that applies
+abbrev pub RefusesWhere : ℕ → Bool → Why → Result (Unit {0}) RecordFault → Type 0
+RefusesWhere number applies why (Ok u) = applies ≡ false
+RefusesWhere number applies why (Err (OpRefused k reason)) = (k ≡ number) × (reason ≡ why) × (applies ≡ true)
+RefusesWhere number applies why (Err TooLarge) = ⊥
+RefusesWhere number applies why (Err TreeDenied) = ⊥
+RefusesWhere number applies why (Err WriteFault) = ⊥
+RefusesWhere number applies why (Err TreeFailed) = ⊥
+RefusesWhere number applies why (Err Memory) = ⊥
+
 -- the paths of a copy have names
 abbrev pub HasNames : Op → Type 0
 HasNames (op.Copy p q) = (0 < length p) × (0 < length q)

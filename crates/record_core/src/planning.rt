@@ -8,7 +8,7 @@ ghost use Rattle.tree_port.specs.States.{WhereKnown};
 ghost use Rattle.record_core.specs.Meanings.{Nodes, backwards, has_child, lacks_parent, nodes_of};
 ghost use Rattle.record_core.specs.Reading.{Finds, ReadsTree};
 ghost use Rattle.record_core.specs.Steps.{IsAtOrUnder};
-ghost use Rattle.record_core.specs.Plans.{MayCopy, Moves, MovesOne, Plans, Prepares, given_steps};
+ghost use Rattle.record_core.specs.Plans.{MayCopy, Moves, MovesOne, Plans, Prepares, RefusesWhere, given_steps};
 
 use crate::labelling::is_labelled;
 use crate::reading::{is_dir_at, is_empty_at, kind_at, value_at};
@@ -58,6 +58,16 @@ fn change_step(
     Ok(steps)
 }
 
+/// The refusal of an operation for this reason, where it applies.
+fn refuse_where(number: usize, applies: bool, why: Why) -> Result<(), RecordFault>
+    ensures { RefusesWhere number applies why result }
+{
+    if applies {
+        return Err(RecordFault::OpRefused { number, why });
+    }
+    Ok(())
+}
+
 /// `mkdir`.
 fn prepare_mkdir(
     alloc: Global,
@@ -69,18 +79,8 @@ fn prepare_mkdir(
     ensures tree { OnOk result (WhereKnown (live tree.old) IsTreeMap) }
     ensures known { WhereKnown (live tree.old) (Prepares number (Op.Mkdir path.now) result) }
 {
-    if kind_at(tree, path)? != Kind::Empty {
-        return Err(RecordFault::OpRefused {
-            number,
-            why: Why::Exists,
-        });
-    }
-    if lacks_parent(alloc, tree, path)? {
-        return Err(RecordFault::OpRefused {
-            number,
-            why: Why::NoParent,
-        });
-    }
+    refuse_where(number, kind_at(tree, path)? != Kind::Empty, Why::Exists)?;
+    refuse_where(number, lacks_parent(alloc, tree, path)?, Why::NoParent)?;
     Ok(change_step(alloc, path, Value::Empty, Value::Dir(Label::empty(alloc)))?)
 }
 
@@ -98,18 +98,8 @@ fn prepare_put(
         (Prepares number (Op.Put path.now bytes.now) result) }
 {
     let old = value_at(alloc, tree, path)?;
-    if old.is_dir() {
-        return Err(RecordFault::OpRefused {
-            number,
-            why: Why::IsDir,
-        });
-    }
-    if lacks_parent(alloc, tree, path)? {
-        return Err(RecordFault::OpRefused {
-            number,
-            why: Why::NoParent,
-        });
-    }
+    refuse_where(number, old.is_dir(), Why::IsDir)?;
+    refuse_where(number, lacks_parent(alloc, tree, path)?, Why::NoParent)?;
     Ok(change_step(alloc, path, old, Value::File(bytes.copy()?))?)
 }
 
@@ -125,18 +115,8 @@ fn prepare_del(
     ensures known { WhereKnown (live tree.old) (Prepares number (Op.Del path.now) result) }
 {
     let old = value_at(alloc, tree, path)?;
-    if old.is_empty() {
-        return Err(RecordFault::OpRefused {
-            number,
-            why: Why::Missing,
-        });
-    }
-    if has_child(alloc, tree, path)? {
-        return Err(RecordFault::OpRefused {
-            number,
-            why: Why::NotEmpty,
-        });
-    }
+    refuse_where(number, old.is_empty(), Why::Missing)?;
+    refuse_where(number, has_child(alloc, tree, path)?, Why::NotEmpty)?;
     Ok(change_step(alloc, path, old, Value::Empty)?)
 }
 
@@ -154,18 +134,8 @@ fn prepare_label(
         (Prepares number (Op.Label path.now label.now) result) }
 {
     let old = value_at(alloc, tree, path)?;
-    if old.is_empty() {
-        return Err(RecordFault::OpRefused {
-            number,
-            why: Why::Missing,
-        });
-    }
-    if !old.is_dir() {
-        return Err(RecordFault::OpRefused {
-            number,
-            why: Why::NotDir,
-        });
-    }
+    refuse_where(number, old.is_empty(), Why::Missing)?;
+    refuse_where(number, !old.is_dir(), Why::NotDir)?;
     Ok(change_step(alloc, path, old, Value::Dir(label.copy()?))?)
 }
 
@@ -233,12 +203,7 @@ fn prepare_deltree(
     ensures tree { OnOk result (WhereKnown (live tree.old) IsTreeMap) }
     ensures known { WhereKnown (live tree.old) (Prepares number (Op.Deltree path.now) result) }
 {
-    if kind_at(tree, path)? == Kind::Empty {
-        return Err(RecordFault::OpRefused {
-            number,
-            why: Why::Missing,
-        });
-    }
+    refuse_where(number, kind_at(tree, path)? == Kind::Empty, Why::Missing)?;
     let paths = list_subtree(alloc, tree, path)?;
     let mut steps = Vec::new(alloc);
     push_clears(&mut steps, paths)?;
@@ -266,30 +231,10 @@ fn refuse_copy(
     ensures tree { OnOk result (WhereKnown (live tree.old) IsTreeMap) }
     ensures known { WhereKnown (live tree.old) (MayCopy number from.now to.now result) }
 {
-    if is_empty_at(tree, from)? {
-        return Err(RecordFault::OpRefused {
-            number,
-            why: Why::Missing,
-        });
-    }
-    if is_under(to, from) {
-        return Err(RecordFault::OpRefused {
-            number,
-            why: Why::Inside,
-        });
-    }
-    if !is_empty_at(tree, to)? {
-        return Err(RecordFault::OpRefused {
-            number,
-            why: Why::Exists,
-        });
-    }
-    if lacks_parent(alloc, tree, to)? {
-        return Err(RecordFault::OpRefused {
-            number,
-            why: Why::NoParent,
-        });
-    }
+    refuse_where(number, is_empty_at(tree, from)?, Why::Missing)?;
+    refuse_where(number, is_under(to, from), Why::Inside)?;
+    refuse_where(number, !is_empty_at(tree, to)?, Why::Exists)?;
+    refuse_where(number, lacks_parent(alloc, tree, to)?, Why::NoParent)?;
     Ok(())
 }
 
