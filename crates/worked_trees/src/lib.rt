@@ -1,8 +1,6 @@
-//! Worked cases of trees: files and sinks, trees in memory, and a folder, written down by hand.
+//! Worked cases of ports and live trees, written down by hand: the adapters over what fails, and trees read whole.
 #![tactic(auto)]
 
-#[cfg(test)]
-mod folders;
 #[cfg(test)]
 mod ports;
 #[cfg(test)]

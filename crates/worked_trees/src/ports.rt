@@ -1,15 +1,12 @@
-//! Ports: files and sinks in memory, and the adapters over a file of the system and over a runtime and a stream of the
-//! test's own, which fail.
+//! The adapters over a runtime and a stream of the test's own, which fail.
 
 use std::alloc::{Allocator, Global};
 use std::fs::{Metadata, OpenFile, OpenOptions};
+use std::io;
 use std::io::{Error, ErrorKind, Read, Seek, SeekFrom, Write};
 use std::test::Fail;
-use std::{fs, io};
-use sync_path::Path;
 use sync_port::{
-    Files, HostFiles, HostSink, MemFiles, MemSink, PortFault, Sink, SinkFailed, WholeFault,
-    read_whole, send, send_path,
+    Files, HostFiles, HostSink, PortFault, Sink, SinkFailed, WholeFault, read_whole, send,
 };
 
 fn unsupported<T>() -> io::Result<T> {
@@ -162,23 +159,6 @@ fn narrow_sink(alloc: Global, most: usize) -> HostSink<Narrow> {
 }
 
 #[test]
-fn reads_a_file_of_the_system(rt: HostRuntime) -> Result<(), Fail> {
-    let alloc = rt.alloc();
-    let folder = std::env::temp_dir(&rt)?;
-    let name = format!(in alloc;
-        "{}/treesync-port-{}",
-        folder.display(),
-        std::process::id(rt.process())
-    )?;
-    fs::write(&rt, name.as_str(), "hello")?;
-    let mut files = HostFiles::new(&rt, alloc);
-    let whole = read_whole(alloc, &mut files, &name, 9)?;
-    fs::remove_file(&rt, name.as_str())?;
-    assert_eq!(rt; whole.as_slice(), b"hello".as_slice());
-    Ok(())
-}
-
-#[test]
 fn a_read_that_fails_is_answered(rt: HostRuntime) -> Result<(), Fail> {
     let alloc = rt.alloc();
     let mut files = HostFiles::new(TwoFiles, alloc);
@@ -204,41 +184,5 @@ fn a_write_and_a_flush_that_fail_are_answered(rt: HostRuntime) -> Result<(), Fai
     assert_eq!(rt; sink.flush(), Err(SinkFailed));
     let mut sink = narrow_sink(alloc, 3);
     assert_eq!(rt; send(&mut sink, b"trees"), Err(SinkFailed));
-    Ok(())
-}
-
-#[test]
-fn a_stream_takes_what_it_has_space_for(rt: HostRuntime) -> Result<(), Fail> {
-    let mut space = [0u8; 3];
-    let mut sink = HostSink::new(io::Cursor::new(space.as_mut_slice()));
-    assert_eq!(rt; send(&mut sink, b"trees"), Err(SinkFailed));
-    assert_eq!(rt; sink.flush(), Ok(()));
-    assert_eq!(rt; space.as_slice(), b"tre".as_slice());
-    Ok(())
-}
-
-#[test]
-fn a_file_in_memory_is_read_up_to_the_limit(rt: HostRuntime) -> Result<(), Fail> {
-    let alloc = rt.alloc();
-    let mut files = MemFiles::new(alloc, Vec::from_slice(alloc, &[8])?);
-    files.add("note", b"hello")?;
-    let refusal = read_whole(alloc, &mut files, "note", 4).err();
-    assert_eq!(rt; refusal, Some(WholeFault::TooLarge));
-    let whole = read_whole(alloc, &mut files, "note", 5)?;
-    assert_eq!(rt; whole.as_slice(), b"hello".as_slice());
-    let refusal = read_whole(alloc, &mut files, "note", 5).err();
-    assert_eq!(rt; refusal, Some(WholeFault::ReadFault));
-    Ok(())
-}
-
-#[test]
-fn a_path_is_sent_to_a_sink_in_memory(rt: HostRuntime) -> Result<(), Fail> {
-    let alloc = rt.alloc();
-    let path = Path::read(alloc, b"a%20b/c%25%C3%A9")?;
-    let mut sink = MemSink::new(alloc, 20, false)?;
-    assert_eq!(rt; send_path(&mut sink, &path), Ok(()));
-    assert_eq!(rt; sink.bytes(), b"a%20b/c%25%C3%A9".as_slice());
-    assert_eq!(rt; send(&mut sink, b"trees"), Err(SinkFailed));
-    assert_eq!(rt; sink.bytes(), b"a%20b/c%25%C3%A9tree".as_slice());
     Ok(())
 }
